@@ -1,2 +1,4 @@
 pub mod Forest
 pub mod Reading
+pub mod Steps
+pub mod Events

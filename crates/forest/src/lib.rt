@@ -1,8 +1,12 @@
-//! Forests of labelled nodes and texts, their bytes, and the reading of records.
+//! Forests of labelled nodes and texts, the bytes that they are written as, and the reading of records.
+pub mod event;
+pub mod events;
+pub mod fault;
+pub mod laws;
+mod read;
+pub mod record;
 
-/// Why something is refused: the refusal's number, and the place that it tells.
-#[derive(Clone, Copy)]
-pub struct Fault {
-    pub number: u8,
-    pub place: usize,
-}
+pub use event::Event;
+pub use events::Events;
+pub use fault::Fault;
+pub use record::Record;
