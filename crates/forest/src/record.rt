@@ -67,7 +67,7 @@ fn open_after(open: usize, event: Event) -> usize
 
 impl<'a> Record<'a> {
     /// The record of the empty forest.
-    pub fn empty() -> Record<'static>
+    pub fn empty() -> Record<'a>
         ensures { λ r. ⌜ now (r .body) ≡ [] ⌝ }
     {
         Record { body: &[] }
