@@ -1,0 +1,5 @@
+pub mod Stream
+pub mod Written
+pub mod Line
+pub mod Told
+pub mod Writing

@@ -1,0 +1,31 @@
+-- Text in an array: its bytes, and 0 in the places after them.
+use mathlib.Core.Path.{_≡_}
+use mathlib.Core.List.{List, [], _∷_, _++_}
+use Prim.Native.Nat.{ℕ, _+_, _-_, _*_, _^_, _<_, _≤_}
+use lib.ListN.{length, getD, replicate}
+use Rattle.std.specs.Written.{decimal}
+
+-- The text in an array of so many bytes.
+abbrev pub padded : ℕ → List ℕ → List ℕ
+padded size s = s ++ replicate (size - length s) 0
+
+-- Each byte is a digit, `0` to `9`.
+abbrev pub Digits : List ℕ → Type 0
+Digits [] = Unit {0}
+Digits (d ∷ ds) = (48 ≤ d) × (d ≤ 57) × Digits ds
+
+-- The number that digits stand for, the first counting most, after digits that stand for n.
+abbrev pub number-after : ℕ → List ℕ → ℕ
+number-after n [] = n
+number-after n (d ∷ ds) = number-after (10 * n + (d - 48)) ds
+
+-- The digits are the number's, with no 0 in front unless that is all.
+pub record Numeral (n : ℕ) (ds : List ℕ) : Type 0 where
+  pub digits : Digits ds
+  pub some : 0 < length ds
+  pub stands-for : number-after 0 ds ≡ n
+  pub first : getD ds 0 0 ≡ 48 → length ds ≡ 1
+
+-- Every number of 64 bits has just one such list of digits, `decimal` of it.
+abbrev pub One-numeral : Type 0
+One-numeral = (n : ℕ) → n < 2 ^ 64 → Numeral n (decimal n) × ((ds : List ℕ) → Numeral n ds → ds ≡ decimal n)
