@@ -4,4 +4,3 @@ pub mod Forms
 pub mod Unique
 pub mod Parses
 pub mod Coming
-pub mod Counting

@@ -49,12 +49,6 @@ depth nil = 0
 depth (text t r) = depth r
 depth (node l c r) = max (suc (depth c)) (depth r)
 
--- How many trees stand side by side at the top.
-abbrev pub trees : Forest → ℕ
-trees nil = 0
-trees (text t r) = suc (trees r)
-trees (node l c r) = suc (trees r)
-
 -- A record is a forest of at most 4,096 bytes whose nodes nest at most 64 deep.
 pub record Record (f : Forest) : Type 0 where
   pub proper : Proper f

@@ -2,10 +2,8 @@
 use mathlib.Core.Path.{_≡_}
 use mathlib.Core.List.{List, _++_}
 use mathlib.Core.Logic.{_⊎_}
-use Prim.Native.Nat.{ℕ, zero, suc, _+_, _-_, _≤_}
+use Prim.Native.Nat.{ℕ, _+_, _≤_}
 use lib.ListN.{length, drop, getD}
-use Rattle.forest.specs.declared.event.Event.{Event}
-use Rattle.forest.specs.declared.event.Event.the-variants.{Opening, Text, Closing}
 use Rattle.forest.specs.Forest.{Forest, Proper, bytes-of, depth}
 use Rattle.forest.specs.Reading.{Due-within, Wrong}
 
@@ -32,14 +30,3 @@ pub record Refused (d : ℕ) (body : List ℕ) (at number place : ℕ) : Type 0 
 pub record Refused-at (body : List ℕ) (at number place : ℕ) : Type 0 where
   pub wrong : (d : ℕ) → Wrong d (drop at body) number
   pub place-is : place ≡ at
-
--- Trees counted at the top: one more where no node is open.
-abbrev pub count-after : ℕ → ℕ → ℕ
-count-after count zero = count + 1
-count-after count (suc d) = count
-
--- Nodes that are open after an event.
-abbrev pub open-after : ℕ → Event → ℕ
-open-after d (Opening l) = d + 1
-open-after d (Text b o) = d
-open-after d Closing = d - 1

@@ -1,15 +1,11 @@
 //! Records: bodies that were checked.
-ghost use Prim.Native.Nat.{_<_};
 ghost use Rattle.forest.specs.Events.{Reading, To-come};
-ghost use Rattle.forest.specs.Forest.{Forest, trees};
+ghost use Rattle.forest.specs.Forest.{Forest};
 ghost use Rattle.forest.specs.Reading.{Just-one, Stands-for, walk};
-ghost use Rattle.forest.specs.Steps.{count-after, open-after};
 ghost use Rattle.std.specs.Results.{Cases};
 ghost use denote.Ref.{now};
-ghost use lib.ListN.{length};
 ghost use mathlib.Core.List.{[]};
 ghost use mathlib.Core.Path.{_≡_};
-use super::event::Event;
 use super::events::Events;
 use super::fault::Fault;
 use super::read::read_forest;
@@ -45,26 +41,6 @@ fn check(body: &[u8]) -> Result<(), Fault>
     Ok(())
 }
 
-/// One tree more where no node is open.
-fn count_after(count: usize, open: usize) -> usize
-    requires { ⌜ count < 65536 ⌝ }
-    ensures { λ r. ⌜ r ≡ count-after count «open» ⌝ }
-{
-    if open == 0 { count + 1 } else { count }
-}
-
-/// How many nodes are open after an event.
-fn open_after(open: usize, event: Event) -> usize
-    requires { ⌜ «open» < 65536 ⌝ }
-    ensures { λ r. ⌜ r ≡ open-after «open» (event .entry) ⌝ }
-{
-    match event {
-        Event::Opening { .. } => open + 1,
-        Event::Text { .. } => open,
-        Event::Closing => open.saturating_sub(1),
-    }
-}
-
 impl<'a> Record<'a> {
     /// The record of the empty forest.
     pub fn empty() -> Record<'a>
@@ -84,13 +60,6 @@ impl<'a> Record<'a> {
         Ok(())
     }
 
-    /// How many bytes it has.
-    pub fn len(&self) -> usize
-        ensures { λ r. ⌜ r ≡ length (now (now (self .entry) .body)) ⌝ }
-    {
-        self.body.len()
-    }
-
     /// Everything that it is made of, to be handed out from the left.
     pub fn events(&self) -> Events<'a>
         ensures same { λ r. ⌜ (now (r .body) ≡ now (now (self .entry) .body)) × (r .at ≡ 0) ⌝ }
@@ -100,19 +69,5 @@ impl<'a> Record<'a> {
             body: self.body,
             at: 0,
         }
-    }
-
-    /// How many trees stand side by side at the top.
-    pub fn trees(&self) -> usize
-        ensures { λ r. ⌜ ((f : Forest) → Stands-for (now (now (self .entry) .body)) f → r ≡ trees f) ⌝ }
-    {
-        let mut events = self.events();
-        let mut open: usize = 0;
-        let mut count: usize = 0;
-        while let Some(event) = events.next() {
-            count = count_after(count, open);
-            open = open_after(open, event);
-        }
-        count
     }
 }

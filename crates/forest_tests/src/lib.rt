@@ -13,20 +13,29 @@ mod tests {
             Err(fault) => {
                 check_eq(fault.number, number)?;
                 check_eq(fault.place, place)?;
-                check_eq(record.len(), 0)
+                check(record.events().next().is_none())
             }
         }
     }
 
-    // The body is read, and has this many trees at the top.
-    fn read(body: &[u8], trees: usize) -> Result<(), Fail> {
+    // How many events the record hands out, of at most so many.
+    fn events(record: &Record, most: usize) -> usize {
+        let mut events = record.events();
+        let mut count: usize = 0;
+        for _ in 0..most {
+            if events.next().is_some() {
+                count = count.saturating_add(1);
+            }
+        }
+        count
+    }
+
+    // The body is read, and hands out this many events.
+    fn read(body: &[u8], count: usize) -> Result<(), Fail> {
         let mut record = Record::empty();
         match record.read(body) {
             Err(_) => Err(Fail::new("the body was refused")),
-            Ok(()) => {
-                check_eq(record.trees(), trees)?;
-                check_eq(record.len(), body.len())
-            }
+            Ok(()) => check_eq(events(&record, body.len()), count),
         }
     }
 
@@ -36,9 +45,9 @@ mod tests {
         read(&[0x03, 0x00], 1)?;
         read(&[0x03, 0x00, 0x03, 0x00], 2)?;
         read(&[0x03, 0x01, 0x02], 1)?;
-        read(&[0x01, 0x00, 0x01, 0x02], 1)?;
-        read(&[0x01, 0x00, 0x0b, 0x02], 1)?;
-        read(&[0x01, 0xff, 0xff, 0x02, 0x01, 0x01, 0x00, 0x02], 2)?;
+        read(&[0x01, 0x00, 0x01, 0x02], 2)?;
+        read(&[0x01, 0x00, 0x0b, 0x02], 2)?;
+        read(&[0x01, 0xff, 0xff, 0x02, 0x01, 0x01, 0x00, 0x02], 4)?;
         read(
             &[
                 0x01,
@@ -53,7 +62,7 @@ mod tests {
                 0x02,
                 0x02,
             ],
-            1,
+            5,
         )?;
         read(
             &[
@@ -74,7 +83,7 @@ mod tests {
                 0x02,
                 0x02,
             ],
-            1,
+            8,
         )
     }
 
@@ -136,7 +145,7 @@ mod tests {
     fn nesting() -> Result<(), Fail> {
         let mut body = [0; 260];
         nest(&mut body, 64, true);
-        read(&body[0..256], 1)?;
+        read(&body[0..256], 128)?;
         refused(&body[0..255], 7, 255)?;
         nest(&mut body, 65, true);
         refused(&body[0..260], 8, 192)?;

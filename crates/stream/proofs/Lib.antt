@@ -1,4 +1,4 @@
 pub mod Fronts
 pub mod Writes
 pub mod Numerals
-pub mod Lines
+pub mod Outcomes

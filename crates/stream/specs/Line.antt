@@ -8,7 +8,7 @@ use Rattle.std.specs.Written.{decimal}
 use Rattle.stream.specs.Written.{padded}
 use Rattle.stream.specs.declared.buffer.LineBuffer.{LineBuffer}
 use Rattle.stream.specs.declared.line.Line.{Line}
-use Rattle.stream.specs.declared.line.Line.the-variants.{Read, PassedOver, Refused}
+use Rattle.stream.specs.declared.line.Line.the-variants.{Sound, Belongs, Refused}
 
 -- A line is made of words and numbers.
 pub data Field : Type 0 where
@@ -21,8 +21,8 @@ shown (number n) = decimal n
 
 -- What follows the entry's number.
 abbrev pub fields : Line → List Field
-fields (Read trees len) = word (codes "read") ∷ (number trees ∷ (number len ∷ []))
-fields PassedOver = word (codes "sheet passed over") ∷ []
+fields (Sound rows places) = word (codes "sound") ∷ (number rows ∷ (number places ∷ []))
+fields Belongs = word (codes "belongs") ∷ []
 fields (Refused f) = word (codes "refused") ∷ (number (f .number) ∷ (number (f .place) ∷ []))
 
 -- A space before each field, and 0A at the end.

@@ -1,6 +1,7 @@
 //! Streams of entries, and the lines that tell what became of each entry.
 
 pub mod buffer;
+pub mod desk;
 pub mod entry;
 pub mod line;
 #[cfg(test)]
@@ -9,8 +10,8 @@ pub mod told;
 mod writer;
 
 pub use buffer::LineBuffer;
+pub use desk::Desk;
 pub use entry::Entry;
 pub use entry::Taken;
 pub use entry::take;
 pub use line::Line;
-pub use told::tell;

@@ -12,10 +12,10 @@ use forest::Fault;
 /// What became of an entry.
 #[derive(Clone, Copy)]
 pub enum Line {
-    /// A record was read: the count of its trees at the top, and its length in bytes.
-    Read { trees: usize, length: usize },
-    /// A sheet was passed over.
-    PassedOver,
+    /// A sheet is sound: the count of its rows, and of its places.
+    Sound { rows: usize, places: usize },
+    /// A record belongs to the sheet that is held.
+    Belongs,
     Refused(Fault),
 }
 
@@ -26,12 +26,12 @@ impl Line {
         ensures within { λ _. ⌜ now (w .exit) .count ≤ 8320 ⌝ }
     {
         match self {
-            Line::Read { trees, length } => {
-                w.word(b"read");
-                w.number(*trees);
-                w.number(*length);
+            Line::Sound { rows, places } => {
+                w.word(b"sound");
+                w.number(*rows);
+                w.number(*places);
             }
-            Line::PassedOver => w.word(b"sheet passed over"),
+            Line::Belongs => w.word(b"belongs"),
             Line::Refused(fault) => {
                 w.word(b"refused");
                 w.number(fault.number as usize);

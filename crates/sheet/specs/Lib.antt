@@ -1,0 +1,14 @@
+pub mod Sheet
+pub mod Meaning
+pub mod Standing
+pub mod Steps
+pub mod Raw
+pub mod Kinds
+pub mod Parts
+pub mod Checking
+pub mod Whole
+pub mod Shapes
+pub mod Compiled
+pub mod Held
+pub mod Leaves
+pub mod Belonging

@@ -1,0 +1,3 @@
+pub mod Sounds
+pub mod Evaluate
+pub mod Worked

@@ -1,0 +1,8 @@
+//! Worked examples of sheets and records, as one table about the definitions.
+
+ghost use Rattle.worked.specs.Examples.{Worked};
+
+/// Which of the worked records belong to which of the worked sheets.
+pub fn worked_examples()
+    ensures { λ _. ⌜ Worked ⌝ }
+{}
