@@ -68,6 +68,14 @@ impl SoundSheet {
         Ok(())
     }
 
+    /// The rows of the sheet.
+    pub fn rows(&self) -> &[Row]
+        ensures { λ r. ⌜ now r ≡ rows-of (now (self .entry)) ⌝ }
+    {
+        let count = self.count;
+        &self.rows[0..count]
+    }
+
     /// How many rows the sheet has.
     pub fn len(&self) -> usize
         ensures { λ r. ⌜ r ≡ length (rows-of (now (self .entry))) ⌝ }

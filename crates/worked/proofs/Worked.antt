@@ -192,4 +192,6 @@ worked =
       node-1-not-in-node-10 = record { rows = rows-node-10; is-sheet = sheet-node-10; forest = (node 1 nil nil); stands-for = stands-node-1; not-of-sheet = out-of-sheet rows-node-10 (sheet-node-10 .passes .sound) 1 0 (node 1 nil nil) (record { is = refl; number = refl }) refl };
       node-11-not-in-endless = record { rows = rows-endless; is-sheet = sheet-endless; forest = (node 11 nil nil); stands-for = stands-node-11; not-of-sheet = out-of-sheet rows-endless (sheet-endless .passes .sound) 1 0 (node 11 nil nil) (record { is = refl; number = refl }) refl };
       nothing-over-one-text = record { rows = rows-one-text; is-sheet = sheet-one-text; only = only-row-0 };
+      length-of-r = record { forest = (node 10 (node 11 (text (78 ∷ []) nil) nil) nil); stands-for = stands-r; cost-is = refl };
+      filling-of-r = record { forest = (node 10 (node 11 (text (78 ∷ []) nil) nil) nil); stands-for = stands-r; cost-is = refl };
     }

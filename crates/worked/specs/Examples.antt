@@ -1,4 +1,4 @@
--- Worked examples: which records belong to which sheets, by their very bytes.
+-- Worked examples: which records belong to which sheets, and what one costs, by their very bytes.
 use mathlib.Core.Path.{_≡_}
 use mathlib.Core.List.{List, [], _∷_}
 use mathlib.Core.Logic.{_↔_}
@@ -10,6 +10,9 @@ use Rattle.sheet.specs.declared.raw.RawRow.{RawRow}
 use Rattle.sheet.specs.Raw.{Body, laid}
 use Rattle.sheet.specs.Checking.{Passes}
 use Rattle.sheet.specs.Meaning.{Of-sheet, Stands}
+use Rattle.measure.specs.Measure.{Rules, cost-of}
+use Rattle.measure.specs.Lengths.{length-rules}
+use Rattle.measure.specs.Fillings.{filling-rules}
 
 -- The body, read and checked, is the sound sheet.
 pub record Is-sheet (body : List ℕ) (s : Sheet) : Type 0 where
@@ -38,6 +41,12 @@ pub record Empty-stands-only (sheet : List ℕ) (e : ℕ) : Type 0 where
   pub rows : Sheet
   pub is-sheet : Is-sheet sheet rows
   pub only : (q : ℕ) → Stands rows nil q ↔ (q ≡ e)
+
+-- By the rules of a measure, the record of these bytes costs this.
+pub record Costs {C : Type 0} (rules : Rules C) (body : List ℕ) (cost : C) : Type 0 where
+  pub forest : Forest
+  pub stands-for : Stands-for body forest
+  pub cost-is : cost-of rules forest ≡ cost
 
 -- 00000000 07000000: the empty forest.
 abbrev pub only-empty : List ℕ
@@ -123,3 +132,5 @@ pub record Worked : Type 0 where
   pub node-1-not-in-node-10 : Stays-out node-10 node-1
   pub node-11-not-in-endless : Stays-out endless node-11
   pub nothing-over-one-text : Empty-stands-only one-text 0
+  pub length-of-r : Costs length-rules r 11
+  pub filling-of-r : Costs filling-rules r (1, 11)

@@ -2,7 +2,7 @@
 
 ghost use Rattle.worked.specs.Examples.{Worked};
 
-/// Which of the worked records belong to which of the worked sheets.
+/// Which of the worked records belong to which of the worked sheets, and what one of them costs.
 pub fn worked_examples()
     ensures { λ _. ⌜ Worked ⌝ }
 {}

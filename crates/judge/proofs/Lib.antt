@@ -1,0 +1,5 @@
+mod Trying
+mod Sheets
+mod Places
+mod Pairing
+mod Telling

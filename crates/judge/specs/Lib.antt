@@ -1,0 +1,4 @@
+pub mod Judging
+pub mod Judged
+pub mod Labels
+pub mod Pairs

@@ -1,0 +1,4 @@
+pub mod Lists
+pub mod Told
+pub mod Seasons
+pub mod Mixed

@@ -1,0 +1,2 @@
+pub mod Pigeons
+mod Judging

@@ -1,0 +1,3 @@
+pub mod Losing
+pub mod Verdict
+pub mod Firsts

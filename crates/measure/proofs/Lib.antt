@@ -1,0 +1,3 @@
+pub mod Costs
+mod Combining
+pub mod Lengths

@@ -1,0 +1,4 @@
+pub mod Holdings
+pub mod Changes
+pub mod Admissions
+pub mod Judgements

@@ -1,0 +1,4 @@
+pub mod Sorting
+pub mod Survey
+pub mod Steps
+pub mod Stocks
