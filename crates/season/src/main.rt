@@ -1,39 +1,55 @@
 //! Reads a stream of entries from standard input and prints a line for each.
-use std::io;
+use desk::Progress;
+use desk::handle;
+use judge::Sort;
+use register::Register;
+use sheet::row::Row;
+use std::error::AnyError;
 use std::io::BufWriter;
 use std::io::Read;
 use std::io::Write;
-use stream::Desk;
-use stream::Line;
 use stream::LineBuffer;
-use stream::take;
+use survey::First;
+use survey::Standings;
 
 /// How much of standard input is read, in bytes.
 const MOST_INPUT: u64 = 65536;
 
-fn main(rt: LibcRuntime) -> io::Result<()> {
-    let mut input = Vec::new(rt.alloc());
+/// An element of the working list before it is used.
+const UNUSED: Sort<u32> = Sort {
+    standings: Standings { old: 0, new: 0 },
+    cost: 0,
+    length: 0,
+    first: First::Nothing,
+    content: 0,
+    rest: 0,
+};
+
+fn main(rt: LibcRuntime) -> Result<(), AnyError> {
+    let heap = rt.alloc();
+    let mut input = Vec::new(heap);
     rt.stdin().take(MOST_INPUT).read_to_end(&mut input)?;
     let mut out = BufWriter::new(rt.stdout());
-    let mut desk = Desk::new();
+    let mut register = Register::new(vec![in heap; Row::Empty; 2048]?, vec![in heap; 0; 65536]?);
+    let mut list = [UNUSED; 1024];
+    let mut show = [0; 4096];
     let mut line = LineBuffer::new();
     let mut rest = input.as_slice();
     let mut number = 1;
     loop {
-        match take(rest) {
-            Ok(None) => break,
-            Ok(Some(taken)) => {
-                desk.tell(number, taken.entry, &mut line);
-                out.write_all(line.text())?;
-                rest = taken.rest;
-                number += 1;
-            }
-            Err(fault) => {
-                line.make(number, &Line::Refused(fault));
+        match handle(&mut register, number, rest, &mut list, &mut show, &mut line) {
+            Progress::Done => break,
+            Progress::Stopped => {
                 out.write_all(line.text())?;
                 break;
             }
+            Progress::More(next) => {
+                out.write_all(line.text())?;
+                rest = next;
+                number += 1;
+            }
         }
     }
-    out.flush()
+    out.flush()?;
+    Ok(())
 }

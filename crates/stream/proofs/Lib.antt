@@ -1,4 +1,3 @@
 pub mod Fronts
 pub mod Writes
 pub mod Numerals
-pub mod Outcomes

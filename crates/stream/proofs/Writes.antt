@@ -1,11 +1,11 @@
 -- What a writer adds, byte by byte and in a row.
 use mathlib.Core.Path.{_≡_, refl, sym, ap, _∙_}
 use mathlib.Core.List.{List, [], _∷_, _++_, append-assoc}
-use Prim.Native.Nat.{ℕ, suc, _+_, _-_, _<_, _≤_}
+use Prim.Native.Nat.{ℕ, suc, _+_, _-_, _*_, _/_, _%_, _<_, _≤_}
 use native.Mathlib.Omega.{arith}
 use lib.ListN.{length, set, drop, replicate, length-append}
 use Rattle.std.proofs.shelf.Lists.{set-at, append-nil, drop-at, drop-more, length-replicate, replicate-more, replicate-append-replicate}
-use Rattle.stream.specs.Written.{padded}
+use Rattle.stream.specs.Written.{padded, hex, hex-digit}
 use Rattle.stream.specs.Writing.{Holds, Adds}
 use Rattle.stream.specs.declared.writer.Writer.{Writer}
 
@@ -50,3 +50,11 @@ pub cleared : (w : Writer) (line : List ℕ) → w .count ≤ 8320 → drop (w .
 cleared w line h b e =
     let n : w .count + (8320 - w .count) ≡ 8320 = omega arith in
     e ∙ ap (λ z. replicate (w .count) 0 ++ z) b ∙ replicate-append-replicate (w .count) (8320 - w .count) 0 ∙ ap (λ k. replicate k 0) n
+
+pub hex-append : (xs ys : List ℕ) → hex (xs ++ ys) ≡ hex xs ++ hex ys
+hex-append [] ys = refl
+hex-append (x ∷ xs) ys = ap (λ z. hex-digit (x / 16) ∷ (hex-digit (x % 16) ∷ z)) (hex-append xs ys)
+
+pub length-hex : (xs : List ℕ) → length (hex xs) ≡ 2 * length xs
+length-hex [] = refl
+length-hex (x ∷ xs) = let e = length-hex xs in omega arith

@@ -1,7 +1,9 @@
 -- Text in an array: its bytes, and 0 in the places after them.
 use mathlib.Core.Path.{_≡_}
+use mathlib.Core.Bool.{cond}
 use mathlib.Core.List.{List, [], _∷_, _++_}
-use Prim.Native.Nat.{ℕ, _+_, _-_, _*_, _^_, _<_, _≤_}
+use Prim.Native.Nat.{ℕ, _+_, _-_, _*_, _/_, _%_, _^_, _<_, _≤_}
+use lib.Dec.{ltb}
 use lib.ListN.{length, getD, replicate}
 use Rattle.std.specs.Written.{decimal}
 
@@ -29,3 +31,12 @@ pub record Numeral (n : ℕ) (ds : List ℕ) : Type 0 where
 -- Every number of 64 bits has just one such list of digits, `decimal` of it.
 abbrev pub One-numeral : Type 0
 One-numeral = (n : ℕ) → n < 2 ^ 64 → Numeral n (decimal n) × ((ds : List ℕ) → Numeral n ds → ds ≡ decimal n)
+
+-- A digit of base 16: `0` to `9`, then `A` to `F`.
+abbrev pub hex-digit : ℕ → ℕ
+hex-digit d = cond (ltb d 10) (48 + d) (55 + d)
+
+-- Bytes as two digits each.
+abbrev pub hex : List ℕ → List ℕ
+hex [] = []
+hex (b ∷ bs) = hex-digit (b / 16) ∷ (hex-digit (b % 16) ∷ hex bs)

@@ -1,16 +1,13 @@
 //! Streams of entries, and the lines that tell what became of each entry.
 
 pub mod buffer;
-pub mod desk;
 pub mod entry;
 pub mod line;
 #[cfg(test)]
 mod tests;
-pub mod told;
 mod writer;
 
 pub use buffer::LineBuffer;
-pub use desk::Desk;
 pub use entry::Entry;
 pub use entry::Taken;
 pub use entry::take;

@@ -1,6 +1,7 @@
 //! Writing text into an array, from its front.
-ghost use Prim.Native.Nat.{_+_, _-_, _<_, _≤_};
+ghost use Prim.Native.Nat.{_*_, _+_, _-_, _<_, _≤_};
 ghost use Rattle.std.specs.Written.{decimal};
+ghost use Rattle.stream.specs.Written.{hex, hex-digit};
 ghost use Rattle.stream.specs.Writing.{Adds, Holds};
 ghost use lib.ListN.{drop, length, replicate};
 ghost use mathlib.Core.List.{[], _∷_};
@@ -11,6 +12,14 @@ ghost use mathlib.Core.Path.{_≡_};
 pub(crate) struct Writer {
     pub line: [u8; 8320],
     pub count: usize,
+}
+
+/// The digit of base 16 for `d`.
+fn hex_digit(d: u8) -> u8
+    requires { ⌜ d < 16 ⌝ }
+    ensures { λ r. ⌜ r ≡ hex-digit d ⌝ }
+{
+    if d < 10 { b'0' + d } else { b'A' - 10 + d }
 }
 
 impl Writer {
@@ -71,5 +80,16 @@ impl Writer {
     {
         self.byte(b' ');
         self.digits(n);
+    }
+
+    /// Adds bytes as two digits each.
+    pub(crate) fn hex(&mut self, bytes: &[u8])
+        requires { ⌜ now self .count + 2 * length (now bytes) ≤ 8320 ⌝ }
+        ensures { λ _. ⌜ Adds (now (self .entry)) (hex (now (bytes .entry))) (now (self .exit)) ⌝ }
+    {
+        for b in bytes {
+            self.byte(hex_digit(*b / 16));
+            self.byte(hex_digit(*b % 16));
+        }
     }
 }

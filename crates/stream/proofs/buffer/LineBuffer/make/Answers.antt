@@ -18,4 +18,4 @@ ghost-self c =
 pub returns : need.returns
 returns c =
     let h = adds-more (c .digits .ensures) (c .add-fields .ensures .adds) .holds [] (c .clear .ensures) in
-    record { shows = record { bytes = h .1; text-length = h .0 }; law = one-numeral }
+    record { says = record { bytes = h .1; text-length = h .0 }; law = one-numeral }

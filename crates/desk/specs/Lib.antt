@@ -1,0 +1,3 @@
+pub mod Handling
+pub mod Seasons
+pub mod Steps
