@@ -1,3 +1,4 @@
 pub mod Fronts
 pub mod Writes
 pub mod Numerals
+pub mod Hexes

@@ -6,6 +6,7 @@ use Prim.Native.Nat.{ℕ, _+_, _-_, _*_, _/_, _%_, _^_, _<_, _≤_}
 use lib.Dec.{ltb}
 use lib.ListN.{length, getD, replicate}
 use Rattle.std.specs.Written.{decimal}
+use Rattle.forest.specs.Forest.{Bytes}
 
 -- The text in an array of so many bytes.
 abbrev pub padded : ℕ → List ℕ → List ℕ
@@ -40,3 +41,16 @@ hex-digit d = cond (ltb d 10) (48 + d) (55 + d)
 abbrev pub hex : List ℕ → List ℕ
 hex [] = []
 hex (b ∷ bs) = hex-digit (b / 16) ∷ (hex-digit (b % 16) ∷ hex bs)
+
+-- What a digit of base 16 stands for, and the bytes that digits stand for, two to a byte.
+abbrev pub digit-value : ℕ → ℕ
+digit-value c = cond (ltb c 65) (c - 48) (c - 55)
+
+abbrev pub bytes-from-hex : List ℕ → List ℕ
+bytes-from-hex [] = []
+bytes-from-hex (a ∷ []) = []
+bytes-from-hex (a ∷ (b ∷ ds)) = (16 * digit-value a + digit-value b) ∷ bytes-from-hex ds
+
+-- The digits of bytes stand for just these bytes.
+abbrev pub Hex-stands : Type 0
+Hex-stands = (bs : List ℕ) → Bytes bs → bytes-from-hex (hex bs) ≡ bs

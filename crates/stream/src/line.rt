@@ -2,7 +2,7 @@
 ghost use Prim.Native.Nat.{ℕ, _≤_};
 ghost use Rattle.stream.specs.Line.{Field, Says, fields, line-text, loss, loss-if, shown, spaced};
 ghost use Rattle.stream.specs.Writing.{Adds};
-ghost use Rattle.stream.specs.Written.{One-numeral};
+ghost use Rattle.stream.specs.Written.{Hex-stands, One-numeral};
 ghost use lib.ListN.{replicate, take};
 ghost use mathlib.Core.List.{List, _∷_};
 ghost use mathlib.Core.Path.{_≡_};
@@ -107,7 +107,8 @@ impl LineBuffer {
     /// Makes the line for the entry of this number, in place of what was there.
     pub fn make(&mut self, number: usize, line: &Line, show: &[u8])
         ensures says { λ _. ⌜ Says (now (self .exit)) number (fields (now (line .entry)) (now (show .entry))) ⌝ }
-        ensures law { λ _. ⌜ One-numeral ⌝ }
+        ensures numerals { λ _. ⌜ One-numeral ⌝ }
+        ensures digits { λ _. ⌜ Hex-stands ⌝ }
     {
         self.held.clear();
         self.held.digits(number);

@@ -1,5 +1,6 @@
 use native.Mathlib.Omega.{arith}
 use mathlib.Core.List.{[]}
+use Rattle.stream.proofs.Hexes.{hex-stands}
 use Rattle.stream.proofs.Numerals.{decimal-short, one-numeral}
 use Rattle.stream.proofs.Writes.{adds-more, blank-past}
 use Rattle.stream.proofs.buffer.LineBuffer.make.Needs as need
@@ -18,4 +19,4 @@ ghost-self c =
 pub returns : need.returns
 returns c =
     let h = adds-more (c .digits .ensures) (c .add-fields .ensures .adds) .holds [] (c .clear .ensures) in
-    record { says = record { bytes = h .1; text-length = h .0 }; law = one-numeral }
+    record { says = record { bytes = h .1; text-length = h .0 }; numerals = one-numeral; digits = hex-stands }
