@@ -1,4 +1,7 @@
 //! The entries of a stream, handled by a register.
+
+#![tactic(auto)]
+
 mod entries;
 mod progress;
 

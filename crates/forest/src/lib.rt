@@ -1,4 +1,7 @@
 //! Forests of labelled nodes and texts, the bytes that they are written as, and the reading of records.
+
+#![tactic(auto)]
+
 pub mod event;
 pub mod events;
 pub mod fault;

@@ -1,4 +1,7 @@
 //! Tests of reading: the worked examples, each refusal at each place that it can have, damaged bodies.
+
+#![tactic(auto)]
+
 #[cfg(test)]
 mod tests {
     use forest::{Event, Record};

@@ -1,4 +1,7 @@
 //! Judging a new sheet against an old one.
+
+#![tactic(auto)]
+
 mod labels;
 mod pair;
 mod sorting;

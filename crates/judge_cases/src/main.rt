@@ -1,4 +1,7 @@
 //! Judges sheets against sheets, case by case, and prints a line for each.
+
+#![tactic(auto)]
+
 mod print;
 mod sheets;
 

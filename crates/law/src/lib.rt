@@ -1,4 +1,7 @@
 //! What the calls of a register answer and leave, and the law of every season of such calls.
+
+#![tactic(auto)]
+
 ghost use Rattle.std.specs.Prelude.{◌≡◌};
 ghost use Rattle.law.specs.declared.Declined.TheVariants.{Refused};
 ghost use Rattle.law.specs.Bounds.{CallBounds};

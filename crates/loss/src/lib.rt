@@ -1,4 +1,7 @@
 //! The cheapest lost forest, over any way in which forests fall into sorts and any measure.
+
+#![tactic(auto)]
+
 mod verdict;
 
 ghost use Rattle.std.specs.Prelude.{◌≡◌, ◌<◌, ◌≤◌, length, Some, slice_index_or};

@@ -1,4 +1,7 @@
 //! Measures: what a forest costs, and by which order.
+
+#![tactic(auto)]
+
 mod either;
 mod filling;
 mod flat;

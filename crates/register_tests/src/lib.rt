@@ -1,4 +1,7 @@
 //! Tests of whole seasons in small memories.
+
+#![tactic(auto)]
+
 #[cfg(test)]
 mod tests {
     use law::Declined;

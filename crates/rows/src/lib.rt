@@ -1,5 +1,7 @@
 //! The rows of a sheet: reading them off a body, and checking them.
 
+#![tactic(auto)]
+
 mod check;
 pub mod checked;
 pub mod raw;

@@ -1,4 +1,7 @@
 //! Reads a stream of entries from standard input and prints a line for each.
+
+#![tactic(auto)]
+
 use desk::{Progress, handle};
 use judge::Sort;
 use register::Register;

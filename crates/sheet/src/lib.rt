@@ -1,5 +1,7 @@
 //! Sound sheets: checking, standings, and belonging.
 
+#![tactic(auto)]
+
 pub mod belong;
 pub mod checked;
 mod compile;

@@ -1,5 +1,7 @@
 //! Runs sheets through reading and checking, each refusal at each place it can occur, and records through belonging.
 
+#![tactic(auto)]
+
 use forest::Fault;
 use rows::ReadSheet;
 use sheet::sound::SoundSheet;

@@ -1,4 +1,7 @@
 //! Lists kept one after another in one piece of memory.
+
+#![tactic(auto)]
+
 ghost use Rattle.std.specs.Prelude.{◌≡◌, ◌-◌, ◌≤◌, length, drop, vec_len};
 ghost use Rattle.store.specs.Packing.{Apart, cuts, total};
 

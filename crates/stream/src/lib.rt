@@ -1,5 +1,7 @@
 //! Streams of entries, and the lines that tell what became of each entry.
 
+#![tactic(auto)]
+
 pub mod buffer;
 pub mod entry;
 pub mod line;

@@ -1,4 +1,7 @@
 //! The sorts of forests, each with a cheapest forest of it.
+
+#![tactic(auto)]
+
 mod hints;
 mod list;
 mod relax;

@@ -1,5 +1,7 @@
 //! Worked examples, as tables about the definitions: each holds by the rules alone, whatever the code does.
 
+#![tactic(auto)]
+
 ghost use Rattle.worked.specs.Costs.{AtCeiling, BreaksALaw, Priced, TextsFirst};
 ghost use Rattle.worked.specs.Examples.{Worked};
 ghost use Rattle.worked.specs.Handing.{Handing};

@@ -1,4 +1,7 @@
 //! Writing out the forest that an element of a survey's list spells.
+
+#![tactic(auto)]
+
 mod parts;
 
 ghost use Rattle.std.specs.Prelude.{◌≡◌, ◌+◌, ◌/◌, ◌%◌, ◌<◌, ◌≤◌, ◌++◌, length, drop, slice_index_or};

@@ -3,12 +3,12 @@ use Rattle.forest.proofs.Stretches.{view, get_or_view, view_first, short_opening
 use Rattle.forest.proofs.read.read_opening.Goals as goal
 use Rattle.forest.proofs.read.read_opening.Goals.{else-hi-eq0-via-then-hi-eq0+else-lo-eq0, else-hi-eq0-via-else-hi-eq0}
 
-pub returns-in-default : goal.returns-in-default
-returns-in-default c = record
+pub returns-in_default : goal.returns-in_default
+returns-in_default c = record
     { wrong = short_opening c.args.body.now c.args.at c.requires.0 (search rules) c.requires.1; place_is = refl }
 
-pub returns-in-default·2 : goal.returns-in-default·2
-returns-in-default·2 c =
+pub returns-in_default-2 : goal.returns-in_default-2
+returns-in_default-2 c =
     let n : get_or (view c.args.body.now c.args.at) 0 0 ≡ 1 → ⊥ = search rules in
     absurd (n (view_first c.args.body.now c.args.at ∙ c.requires.1))
 

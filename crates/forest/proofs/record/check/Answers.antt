@@ -13,28 +13,28 @@ due b n p l r =
     let e : r.offset ≡ p = sym (zero-add r.offset) ∙ sym r.place_is in
     within l (subst (λ (o : ℕ). DueWithin 0 b n o) e r.due)
 
-pub returns-then-body-gt-MOST-BYTES : goal.returns-then-body-gt-MOST-BYTES
-returns-then-body-gt-MOST-BYTES c = too_long (search rules)
+pub returns-then-body-gt-MOST_BYTES : goal.returns-then-body-gt-MOST_BYTES
+returns-then-body-gt-MOST_BYTES c = too_long (search rules)
 
-pub returns-in-err-end : goal.returns-in-err-end
-returns-in-err-end c =
-    let p = err_from_is_err_and c.from-residual.result c.from-residual.ensures.1 in
-    rw (p.1, p.2) (due c.args.body.now _ _ (search rules) c.in-err-end.ensures)
+pub returns-in_err-end : goal.returns-in_err-end
+returns-in_err-end c =
+    let p = err_from_is_err_and c.from_residual.result c.from_residual.ensures.1 in
+    rw (p.1, p.2) (due c.args.body.now _ _ (search rules) c.in_err-end.ensures)
 
 pub returns-then-end-body : goal.returns-then-end-body
 returns-then-end-body c =
-    let w = c.in-ok-end.ensures in
-    let l : c.in-ok-end.end < length c.args.body.now = search rules in
-    let o : get_or c.args.body.now c.in-ok-end.end 0 ≡ 2 = elim w.1 [ inl x ↦ absurd (omega arith) | inr x ↦ x ] in
-    due c.args.body.now 7 c.in-ok-end.end (search rules)
-    (refused_after 64 0 c.args.body.now 0 c.in-ok-end.end 7 c.in-ok-end.end (omega arith) w.0
-    (refused_here 0 c.args.body.now c.in-ok-end.end 7 (stray c.args.body.now c.in-ok-end.end l o)))
+    let w = c.in_ok-end.ensures in
+    let l : c.in_ok-end.end < length c.args.body.now = search rules in
+    let o : get_or c.args.body.now c.in_ok-end.end 0 ≡ 2 = elim w.1 [ inl x ↦ absurd (omega arith) | inr x ↦ x ] in
+    due c.args.body.now 7 c.in_ok-end.end (search rules)
+    (refused_after 64 0 c.args.body.now 0 c.in_ok-end.end 7 c.in_ok-end.end (omega arith) w.0
+    (refused_here 0 c.args.body.now c.in_ok-end.end 7 (stray c.args.body.now c.in_ok-end.end l o)))
 
 pub returns : goal.returns
 returns c =
-    let s = c.in-ok-end.ensures.0 in
+    let s = c.in_ok-end.ensures.0 in
     let l : length c.args.body.now ≤ 4096 = search rules in
-    let z = drop_all c.in-ok-end.end c.args.body.now (search rules) in
+    let z = drop_all c.in_ok-end.end c.args.body.now (search rules) in
     let e : c.args.body.now ≡ bytes_of s.forest = s.is_written ∙ ap (λ k. bytes_of s.forest ++ k) z ∙ append-nil (bytes_of s.forest) in
     let n : length c.args.body.now ≡ length (bytes_of s.forest) = ap length e in
     (s.forest, record { is_record = record { proper = s.proper; short = omega arith; shallow = s.shallow }; is_written = e })

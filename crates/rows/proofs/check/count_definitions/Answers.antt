@@ -8,12 +8,12 @@ use Rattle.rows.proofs.check.count_definitions.Goals.{then-is-definition, else-i
 pub loop-e-preserved : goal.loop-e-preserved
 loop-e-preserved c =
     let inv = c.loop-e.invariant in
-    elim c.if-is-definition.branch [
+    elim c.if-is_definition.branch [
       | then-is-definition w ↦
-          let q = one_more c.args.rows.now c.loop-e.e empty c.loop-e-test.true (w.if-is-definition.ensures.0 tt) in
+          let q = one_more c.args.rows.now c.loop-e.e empty c.loop-e-test.true (w.if-is_definition.ensures.0 tt) in
           let r = w.count-is in (omega arith, omega arith)
       | else-is-definition w ↦
-          let q = none_more c.args.rows.now c.loop-e.e empty c.loop-e-test.true (λ y. w.if-is-definition.ensures.1 y) in
+          let q = none_more c.args.rows.now c.loop-e.e empty c.loop-e-test.true (λ y. w.if-is_definition.ensures.1 y) in
           let r = w.count-is in (omega arith, omega arith)
     ]
 

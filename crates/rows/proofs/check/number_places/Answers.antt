@@ -9,7 +9,7 @@ use Rattle.rows.proofs.check.number_places.Goals.{then-is-place+else-count-eq64,
 pub returns-then-count-eq64 : goal.returns-then-count-eq64
 returns-then-count-eq64 c = (
   refl,
-  place_of c.args.rows.now c.loop-e.e empty c.loop-e-test.true (c.if-is-place.ensures.0 tt),
+  place_of c.args.rows.now c.loop-e.e empty c.loop-e-test.true (c.if-is_place.ensures.0 tt),
   sym c.loop-e.invariant.0.many ∙ c.if-count-eq64.true,
 )
 
@@ -24,16 +24,16 @@ loop-e-preserved c =
     let n = below_more (λ (k : ℕ). get_or (set c.loop-e.numbers c.loop-e.e (ones c.loop-e.set)) k 0 ≡ places (take k c.args.rows.now)) e
     (λ k b. get_or-set_other c.loop-e.numbers e k (ones c.loop-e.set) 0 (omega arith) ∙ inv.2 k b)
     (get_or-set_same c.loop-e.numbers e (ones c.loop-e.set) 0 l ∙ p.many) in
-    elim c.if-is-place.branch [
+    elim c.if-is_place.branch [
       | then-is-place+else-count-eq64 w ↦
-          let y = w.if-is-place.ensures.0 tt in
+          let y = w.if-is_place.ensures.0 tt in
           let w128 : c.loop-e.e < 128 = omega arith in (
             subst (λ (m : ℕ). PlaceSet c.args.rows.now (c.loop-e.e + 1) m) (sym w.set-is) (set_more s e c.loop-e.set empty w128 h y p),
             omega (arith, place_more s e empty h y, p.many, w.if-count-eq64.false),
             n,
           )
       | else-is-place w ↦
-          let y : _ → ⊥ = λ z. w.if-is-place.ensures.1 z in (
+          let y : _ → ⊥ = λ z. w.if-is_place.ensures.1 z in (
             subst (λ (m : ℕ). PlaceSet c.args.rows.now (c.loop-e.e + 1) m) (sym w.set-is) (set_same_more s e c.loop-e.set empty h y p),
             omega (arith, place_same s e empty h y),
             n,

@@ -11,8 +11,8 @@ use Rattle.rows.proofs.check.parts_once.Goals.{else-used-a-ne1-via-then-used-a-n
 pub tally-requires : goal.tally-requires
 tally-requires c = ((c.requires.0, (c.requires.1, refl)), λ a. zeros 128 a)
 
-pub returns-then-not-is-definition : goal.returns-then-not-is-definition
-returns-then-not-is-definition c =
+pub returns-then-not-is_definition : goal.returns-then-not-is_definition
+returns-then-not-is_definition c =
     let s = c.args.rows.now in
     let i = at_get_or s c.loop-a.a empty c.loop-a-test.true in (
       refl,
@@ -21,7 +21,7 @@ returns-then-not-is-definition c =
         below = c.loop-a.invariant;
         fails = λ z. c.if-used-a-ne1.true
             (c.tally.ensures c.loop-a.a
-            ∙ used_once s c.loop-a.a (not_definition s c.loop-a.a _ i c.if-not-is-definition.ensures.1) z);
+            ∙ used_once s c.loop-a.a (not_definition s c.loop-a.a _ i c.if-not-is_definition.ensures.1) z);
       },
     )
 
@@ -32,6 +32,6 @@ loop-a-preserved c =
     below_more (OnceAPart s) c.loop-a.a c.loop-a.invariant
     (elim c.else-used-a-ne1.branch [
       | else-used-a-ne1-via-then-used-a-ne1+else-not-is-definition w ↦
-          let d = definition_row _ (w.if-not-is-definition.ensures.0 tt) in is_definition (i ∙ ap some d.1)
+          let d = definition_row _ (w.if-not-is_definition.ensures.0 tt) in is_definition (i ∙ ap some d.1)
       | else-used-a-ne1-via-else-used-a-ne1 w ↦ once_used s c.loop-a.a (sym (c.tally.ensures c.loop-a.a) ∙ w.if-used-a-ne1.false)
     ])

@@ -6,8 +6,8 @@ use Rattle.rows.proofs.Numbers.{at_get_or}
 use Rattle.rows.proofs.Tallies.{fit_below, uses_most}
 use Rattle.rows.proofs.check.tally.Goals as goal
 
-pub tally-row-requires : goal.tally-row-requires
-tally-row-requires c =
+pub tally_row-requires : goal.tally_row-requires
+tally_row-requires c =
     let s = c.args.rows.now in
     let h = c.loop-e-test.true in (
       fit_below s c.loop-e.e _ _ c.requires.0.0 (at_get_or s c.loop-e.e empty h) (omega arith),
@@ -18,6 +18,6 @@ pub loop-e-preserved : goal.loop-e-preserved
 loop-e-preserved c a =
     let s = c.args.rows.now in
     let h = c.loop-e-test.true in
-    c.tally-row.ensures a ∙ ap (λ (n : ℕ). n + hits a (some (get_or s c.loop-e.e empty))) (c.loop-e.invariant a)
+    c.tally_row.ensures a ∙ ap (λ (n : ℕ). n + hits a (some (get_or s c.loop-e.e empty))) (c.loop-e.invariant a)
     ∙ ap (λ (o : Option Row). uses s c.loop-e.e a + hits a o) (sym (at_get_or s c.loop-e.e empty h))
     ∙ ap (λ (j : ℕ). uses s j a) (sym (add-one c.loop-e.e))

@@ -11,11 +11,11 @@ returns-in-Def c = (
   λ x. x.plain c.in-Def.field-0 (at_get_or c.args.below.now c.args.part empty c.if-part-below.false ∙ ap some c.in-Def.is),
 )
 
-pub returns-in-default : goal.returns-in-default
-returns-in-default c = (
+pub returns-in_default : goal.returns-in_default
+returns-in_default c = (
   λ x. record {
     lower = c.if-part-below.false;
-    plain = λ y i. c.in-default.not-Def y (same_row (sym (at_get_or c.args.below.now c.args.part empty c.if-part-below.false) ∙ i));
+    plain = λ y i. c.in_default.not-Def y (same_row (sym (at_get_or c.args.below.now c.args.part empty c.if-part-below.false) ∙ i));
   },
   λ x. tt,
 )

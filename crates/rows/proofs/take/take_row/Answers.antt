@@ -67,35 +67,35 @@ returns-in-4-2 c =
       | in-5+else-third-eq0-4 w ↦ absurd (omega arith)
     ]
 
-pub returns-in-default : goal.returns-in-default
-returns-in-default c = says_none c.args.raw c.args.below.now (omega arith)
+pub returns-in_default : goal.returns-in_default
+returns-in_default c = says_none c.args.raw c.args.below.now (omega arith)
 
-pub returns-in-default·2 : goal.returns-in-default·2
-returns-in-default·2 c = says_none c.args.raw c.args.below.now (omega arith)
+pub returns-in_default-2 : goal.returns-in_default-2
+returns-in_default-2 c = says_none c.args.raw c.args.below.now (omega arith)
 
-pub returns-in-default·3 : goal.returns-in-default·3
-returns-in-default·3 c = says_none c.args.raw c.args.below.now (omega arith)
+pub returns-in_default-3 : goal.returns-in_default-3
+returns-in_default-3 c = says_none c.args.raw c.args.below.now (omega arith)
 
-pub returns-in-default·4 : goal.returns-in-default·4
-returns-in-default·4 c = says_none c.args.raw c.args.below.now (omega arith)
+pub returns-in_default-4 : goal.returns-in_default-4
+returns-in_default-4 c = says_none c.args.raw c.args.below.now (omega arith)
 
-pub returns-in-default·5 : goal.returns-in-default·5
-returns-in-default·5 c = says_none c.args.raw c.args.below.now (omega arith)
+pub returns-in_default-5 : goal.returns-in_default-5
+returns-in_default-5 c = says_none c.args.raw c.args.below.now (omega arith)
 
-pub returns-in-default·6 : goal.returns-in-default·6
-returns-in-default·6 c = says_none c.args.raw c.args.below.now (omega arith)
+pub returns-in_default-6 : goal.returns-in_default-6
+returns-in_default-6 c = says_none c.args.raw c.args.below.now (omega arith)
 
-pub returns-in-default·7 : goal.returns-in-default·7
-returns-in-default·7 c = says_none c.args.raw c.args.below.now (omega arith)
+pub returns-in_default-7 : goal.returns-in_default-7
+returns-in_default-7 c = says_none c.args.raw c.args.below.now (omega arith)
 
-pub returns-in-default·8 : goal.returns-in-default·8
-returns-in-default·8 c = says_none c.args.raw c.args.below.now (omega arith)
+pub returns-in_default-8 : goal.returns-in_default-8
+returns-in_default-8 c = says_none c.args.raw c.args.below.now (omega arith)
 
-pub returns-in-default·9 : goal.returns-in-default·9
-returns-in-default·9 c = says_none c.args.raw c.args.below.now (omega arith)
+pub returns-in_default-9 : goal.returns-in_default-9
+returns-in_default-9 c = says_none c.args.raw c.args.below.now (omega arith)
 
-pub returns-in-default·10 : goal.returns-in-default·10
-returns-in-default·10 c =
+pub returns-in_default-10 : goal.returns-in_default-10
+returns-in_default-10 c =
     let n0 : c.args.raw.kind ≡ 0 → ⊥ = search rules in
     let n1 : c.args.raw.kind ≡ 1 → ⊥ = search rules in
     let n2 : c.args.raw.kind ≡ 2 → ⊥ = search rules in
@@ -106,11 +106,11 @@ returns-in-default·10 c =
     let n7 : c.args.raw.kind ≡ 7 → ⊥ = search rules in
     says_none c.args.raw c.args.below.now (λ e _. n0 e, λ e _. n1 e, λ e _. n2 e, λ e _. n3 e, λ e _. n4 e, λ e _. n5 e, λ e _. n6 e, λ e _. n7 e)
 
-pub returns-in-default·11 : goal.returns-in-default·11
-returns-in-default·11 c = says_none c.args.raw c.args.below.now (omega arith)
+pub returns-in_default-11 : goal.returns-in_default-11
+returns-in_default-11 c = says_none c.args.raw c.args.below.now (omega arith)
 
-pub returns-in-default·12 : goal.returns-in-default·12
-returns-in-default·12 c = says_none c.args.raw c.args.below.now (omega arith)
+pub returns-in_default-12 : goal.returns-in_default-12
+returns-in_default-12 c = says_none c.args.raw c.args.below.now (omega arith)
 
-pub returns-in-default·13 : goal.returns-in-default·13
-returns-in-default·13 c = says_none c.args.raw c.args.below.now (omega arith)
+pub returns-in_default-13 : goal.returns-in_default-13
+returns-in_default-13 c = says_none c.args.raw c.args.below.now (omega arith)

@@ -1,6 +1,13 @@
 use Rattle.std.proofs.Common.{refl, arith}
-use lib.ListN.{length-replicate}
 use Rattle.store.proofs.Store.new.Goals as goal
+use Rattle.std.proofs.lemmas.List.{length-replicate}
 
-pub invariant-of-result : goal.invariant-of-result
-invariant-of-result g c = ((omega arith, length-replicate g.row.N _), ((omega arith, omega arith), ((λ k h. let z : ⊥ = omega arith in absurd z), (refl, (omega arith, (refl, tt))))))
+pub invariant_of-result : goal.invariant_of-result
+invariant_of-result g c = record {
+    few = (omega arith, length-replicate g.row.N _);
+    within = (omega arith, omega arith);
+    apart = λ k h. let z : ⊥ = omega arith in absurd z;
+    counted = refl;
+    left = omega arith;
+    filled = refl;
+  }

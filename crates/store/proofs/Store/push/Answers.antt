@@ -7,22 +7,29 @@ paste-requires g c =
     let s = c.args.self.now in
     let e = s.left in
     let f = s.filled in
-    let v = c.deref-mut.ensures.len in
+    let v = c.deref_mut.ensures.len in
     omega arith
 
 pub bounds-self-self : goal.bounds-self-self
 bounds-self-self g c = let e = c.args.self.now.counted in omega arith
 
-pub invariant-of-self : goal.invariant-of-self
-invariant-of-self g c =
+pub invariant_of-self : goal.invariant_of-self
+invariant_of-self g c =
     let s = c.args.self.now in
     let b = c.args.body.now in
     let m = c.paste.new.memory in
     let e = s.counted in
     let l = s.left in
     let f = s.filled in
-    let p = c.paste.ensures ∙ ap (λ (x : List g.row.T.Denot). take s.used x ++ (b ++ drop (s.used + length b) x)) c.deref-mut.ensures.value in
-    ((omega arith, simp length-set (omega arith)), ((omega arith, omega arith), (apart_after s b m p (omega arith) (omega arith), (counted_after s b m p (omega arith) (omega arith), (left_after s b m p (omega arith) (omega arith), (filled_after s b m p (omega arith) (omega arith), tt))))))
+    let p = c.paste.ensures ∙ ap (λ (x : List g.row.T.Denot). take s.used x ++ (b ++ drop (s.used + length b) x)) c.deref_mut.ensures.value in
+    record {
+      few = (omega arith, simp length-set (omega arith));
+      within = (omega arith, omega arith);
+      apart = apart_after s b m p (omega arith) (omega arith);
+      counted = counted_after s b m p (omega arith) (omega arith);
+      left = left_after s b m p (omega arith) (omega arith);
+      filled = filled_after s b m p (omega arith) (omega arith);
+    }
 
 pub returns : goal.returns
 returns g c =
@@ -32,5 +39,5 @@ returns g c =
     let e = s.counted in
     let l = s.left in
     let f = s.filled in
-    let p = c.paste.ensures ∙ ap (λ (x : List g.row.T.Denot). take s.used x ++ (b ++ drop (s.used + length b) x)) c.deref-mut.ensures.value in
+    let p = c.paste.ensures ∙ ap (λ (x : List g.row.T.Denot). take s.used x ++ (b ++ drop (s.used + length b) x)) c.deref_mut.ensures.value in
     record { listed = lists_after s b m p (omega arith) (omega arith); left = free_after s b m p (omega arith) (omega arith); same_limit = refl }

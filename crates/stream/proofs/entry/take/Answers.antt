@@ -17,7 +17,7 @@ returns-in-ok-body-2 c = let h = c.in-ok-body-2.ensures in
 
 pub returns-in-err-body : goal.returns-in-err-body
 returns-in-err-body c = let h = c.in-err-body.ensures in
-    let p = err_from_is_err_and c.from-residual.result c.from-residual.ensures.1 in
+    let p = err_from_is_err_and c.from_residual.result c.from_residual.ensures.1 in
     record { tells = rw (p.1, p.2, h.0, h.1) (in_body_at a_sheet _ (search rules) (search rules) h.2); law = just_one_front }
 
 pub returns-in-err-body-2 : goal.returns-in-err-body-2
@@ -35,5 +35,5 @@ returns-in-84-2 c = record { tells = in_length_at a_sheet _ (search rules) (sear
 pub returns-in-82-2 : goal.returns-in-82-2
 returns-in-82-2 c = record { tells = in_length_at a_record _ (search rules) (search rules) (search rules); law = just_one_front }
 
-pub returns-in-default : goal.returns-in-default
-returns-in-default c = record { tells = no_mark_at _ (search rules) (λ a b. search rules) (λ a b. search rules); law = just_one_front }
+pub returns-in_default : goal.returns-in_default
+returns-in_default c = record { tells = no_mark_at _ (search rules) (λ a b. search rules) (λ a b. search rules); law = just_one_front }

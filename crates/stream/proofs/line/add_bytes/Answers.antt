@@ -11,8 +11,8 @@ shown_digits : (bs : List ℕ) → (length bs ≡ 0 → ⊥) → length bs ≤ 4
 shown_digits [] n l = absurd (n refl)
 shown_digits (b ∷ bs) n l = rw (le-ltb 4096 (length (b ∷ bs)) l) refl
 
-pub returns-else-bytes-gt-MOST-SHOWN : goal.returns-else-bytes-gt-MOST-SHOWN
-returns-else-bytes-gt-MOST-SHOWN c =
+pub returns-else-bytes-gt-MOST_SHOWN : goal.returns-else-bytes-gt-MOST_SHOWN
+returns-else-bytes-gt-MOST_SHOWN c =
     let a = adds_more c.byte.ensures c.hex.ensures in
     let n : length c.args.bytes.now ≡ 0 → ⊥ = search rules in
     let l : length c.args.bytes.now ≤ 4096 = search rules in

@@ -22,4 +22,4 @@ returns-then-seen c =
     let f = front_of c.args.show.now c.args.size c.min-end.result c.min-end.ensures in
     let e : loss (take (c.min-end.result - 0) c.args.show.now) ≡ loss_if c.args.seen c.args.size c.args.show.now
     = ap loss f ∙ ap (λ b. loss_if b c.args.size c.args.show.now) (sym c.if-seen.true) in
-    record { adds = subst (λ x. Adds c.args.w.now (32 ∷ shown x) c.add-bytes.new.w) e c.add-bytes.ensures.adds; within = c.add-bytes.ensures.within }
+    record { adds = subst (λ x. Adds c.args.w.now (32 ∷ shown x) c.add_bytes.new.w) e c.add_bytes.ensures.adds; within = c.add_bytes.ensures.within }

@@ -17,46 +17,46 @@ module _ (b : List ℕ) (at : ℕ) (l : at ≤ length b) (n : at ≡ length b �
   handed-opening label b0 k e ts h =
       subst (λ (m : ℕ). Handed b at ts (Some (Opening m)) (at + 3)) (sym e) (hands_opening b at (get_or b (at + 1) 0) (get_or b (at + 2) 0) ts k b0 refl refl h)
 
-pub label-at-label-requires : goal.label-at-label-requires
-label-at-label-requires c =
+pub label_at-label-requires : goal.label_at-label-requires
+label_at-label-requires c =
     let s = c.args.self.now in
     opening_inside c.args.self.now.body.now c.args.self.now.at c.args.self.now.whole
     (below _ _ c.args.self.now.inside c.if-at-body.false) c.in-1.is
 
-pub invariant-of-self : goal.invariant-of-self
-invariant-of-self c =
+pub invariant_of-self : goal.invariant_of-self
+invariant_of-self c =
     let b = c.args.self.now.body.now in
     let at = c.args.self.now.at in
     let l = below _ _ c.args.self.now.inside c.if-at-body.false in
     let k = opening_inside c.args.self.now.body.now c.args.self.now.at c.args.self.now.whole l c.in-1.is in
-    let w = still_come c.args.self.now.body.now c.args.self.now.at (Opening c.label-at-label.result) (c.args.self.now.at + 3)
-    (handed-opening c.args.self.now.body.now c.args.self.now.at c.args.self.now.inside c.if-at-body.false c.label-at-label.result c.in-1.is k c.label-at-label.ensures) c.args.self.now.whole in
-    (inside_come c.args.self.now.body.now (c.args.self.now.at + 3) w, (w, tt))
+    let w = still_come c.args.self.now.body.now c.args.self.now.at (Opening c.label_at-label.result) (c.args.self.now.at + 3)
+    (handed-opening c.args.self.now.body.now c.args.self.now.at c.args.self.now.inside c.if-at-body.false c.label_at-label.result c.in-1.is k c.label_at-label.ensures) c.args.self.now.whole in
+    record { inside = inside_come c.args.self.now.body.now (c.args.self.now.at + 3) w; whole = w }
 
-pub invariant-of-self-in-2 : goal.invariant-of-self-in-2
-invariant-of-self-in-2 c =
+pub invariant_of-self-in-2 : goal.invariant_of-self-in-2
+invariant_of-self-in-2 c =
     let l = below _ _ c.args.self.now.inside c.if-at-body.false in
     let w = still_come c.args.self.now.body.now c.args.self.now.at Closing (c.args.self.now.at + 1)
     (λ ts h. hands_closing c.args.self.now.body.now c.args.self.now.at ts l c.in-2.is h) c.args.self.now.whole in
-    (inside_come c.args.self.now.body.now (c.args.self.now.at + 1) w, (w, tt))
+    record { inside = inside_come c.args.self.now.body.now (c.args.self.now.at + 1) w; whole = w }
 
-pub text-at-bytes-requires : goal.text-at-bytes-requires
-text-at-bytes-requires c =
+pub text_at-bytes-requires : goal.text_at-bytes-requires
+text_at-bytes-requires c =
     let l = below _ _ c.args.self.now.inside c.if-at-body.false in
     let n1 : get_or c.args.self.now.body.now c.args.self.now.at 0 ≡ 1 → ⊥ = search rules in
     let n2 : get_or c.args.self.now.body.now c.args.self.now.at 0 ≡ 2 → ⊥ = search rules in
     let k = text_inside c.args.self.now.body.now c.args.self.now.at c.args.self.now.whole l n1 n2 in
     (omega arith, k)
 
-pub invariant-of-self-in-default : goal.invariant-of-self-in-default
-invariant-of-self-in-default c =
+pub invariant_of-self-in_default : goal.invariant_of-self-in_default
+invariant_of-self-in_default c =
     let l = below _ _ c.args.self.now.inside c.if-at-body.false in
     let n1 : get_or c.args.self.now.body.now c.args.self.now.at 0 ≡ 1 → ⊥ = search rules in
     let n2 : get_or c.args.self.now.body.now c.args.self.now.at 0 ≡ 2 → ⊥ = search rules in
     let k = text_inside c.args.self.now.body.now c.args.self.now.at c.args.self.now.whole l n1 n2 in
-    let w = still_come c.args.self.now.body.now c.args.self.now.at (Text c.text-at-bytes.result (c.args.self.now.at + 2)) (c.args.self.now.at + 2 + length c.text-at-bytes.result.now)
-    (λ ts h. hands_bytes c.args.self.now.body.now c.args.self.now.at c.text-at-bytes.result ts l k n1 n2 c.text-at-bytes.ensures h) c.args.self.now.whole in
-    (inside_come c.args.self.now.body.now (c.args.self.now.at + 2 + length c.text-at-bytes.result.now) w, (w, tt))
+    let w = still_come c.args.self.now.body.now c.args.self.now.at (Text c.text_at-bytes.result (c.args.self.now.at + 2)) (c.args.self.now.at + 2 + length c.text_at-bytes.result.now)
+    (λ ts h. hands_bytes c.args.self.now.body.now c.args.self.now.at c.text_at-bytes.result ts l k n1 n2 c.text_at-bytes.ensures h) c.args.self.now.whole in
+    record { inside = inside_come c.args.self.now.body.now (c.args.self.now.at + 2 + length c.text_at-bytes.result.now) w; whole = w }
 
 pub returns-in-1 : goal.returns-in-1
 returns-in-1 c =
@@ -64,7 +64,7 @@ returns-in-1 c =
     let k = opening_inside c.args.self.now.body.now c.args.self.now.at c.args.self.now.whole l c.in-1.is in
     record {
       same = refl;
-      handed = handed-opening c.args.self.now.body.now c.args.self.now.at c.args.self.now.inside c.if-at-body.false c.label-at-label.result c.in-1.is k c.label-at-label.ensures;
+      handed = handed-opening c.args.self.now.body.now c.args.self.now.at c.args.self.now.inside c.if-at-body.false c.label_at-label.result c.in-1.is k c.label_at-label.ensures;
     }
 
 pub returns-in-2 : goal.returns-in-2
@@ -72,10 +72,10 @@ returns-in-2 c =
     let l = below _ _ c.args.self.now.inside c.if-at-body.false in
     record { same = refl; handed = λ ts h. hands_closing c.args.self.now.body.now c.args.self.now.at ts l c.in-2.is h }
 
-pub returns-in-default : goal.returns-in-default
-returns-in-default c =
+pub returns-in_default : goal.returns-in_default
+returns-in_default c =
     let l = below _ _ c.args.self.now.inside c.if-at-body.false in
     let n1 : get_or c.args.self.now.body.now c.args.self.now.at 0 ≡ 1 → ⊥ = search rules in
     let n2 : get_or c.args.self.now.body.now c.args.self.now.at 0 ≡ 2 → ⊥ = search rules in
     let k = text_inside c.args.self.now.body.now c.args.self.now.at c.args.self.now.whole l n1 n2 in
-    record { same = refl; handed = λ ts h. hands_bytes c.args.self.now.body.now c.args.self.now.at c.text-at-bytes.result ts l k n1 n2 c.text-at-bytes.ensures h }
+    record { same = refl; handed = λ ts h. hands_bytes c.args.self.now.body.now c.args.self.now.at c.text_at-bytes.result ts l k n1 n2 c.text_at-bytes.ensures h }

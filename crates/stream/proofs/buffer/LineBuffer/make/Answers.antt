@@ -7,15 +7,15 @@ use Rattle.stream.proofs.buffer.LineBuffer.make.Goals as goal
 pub digits-requires : goal.digits-requires
 digits-requires c = omega (arith, decimal_short c.args.number (omega arith))
 
-pub add-fields-requires : goal.add-fields-requires
-add-fields-requires c = omega (arith, decimal_short c.args.number (omega arith))
+pub add_fields-requires : goal.add_fields-requires
+add_fields-requires c = omega (arith, decimal_short c.args.number (omega arith))
 
-pub invariant-of-self : goal.invariant-of-self
-invariant-of-self c =
-    let h = (adds_more c.digits.ensures c.add-fields.ensures.adds).holds [] c.clear.ensures in
-    (c.add-fields.ensures.within, (blank_past c.add-fields.new.w _ h, tt))
+pub invariant_of-self : goal.invariant_of-self
+invariant_of-self c =
+    let h = (adds_more c.digits.ensures c.add_fields.ensures.adds).holds [] c.clear.ensures in
+    (c.add_fields.ensures.within, (blank_past c.add_fields.new.w _ h, tt))
 
 pub returns : goal.returns
 returns c =
-    let h = (adds_more c.digits.ensures c.add-fields.ensures.adds).holds [] c.clear.ensures in
+    let h = (adds_more c.digits.ensures c.add_fields.ensures.adds).holds [] c.clear.ensures in
     record { says = record { bytes = h.1; text_length = h.0 }; numerals = one_numeral; digits = hex_stands }

@@ -12,7 +12,7 @@ returns c = record {
         (adds_more w.number-in-Refused-2.ensures.adds (rw w.w-is at c.byte.ensures))))
     | in-Lost w ↦ rw w.in-Lost.is (adds_more w.word-in-Lost.ensures (adds_more w.number-in-Lost.ensures.adds
         (adds_more w.number-in-Lost-2.ensures.adds (adds_more w.number-in-Lost-3.ensures.adds
-        (adds_more w.add-loss.ensures.adds (rw w.w-is at c.byte.ensures))))))
+        (adds_more w.add_loss.ensures.adds (rw w.w-is at c.byte.ensures))))))
   ];
   within = elim c.match-self.branch [
     | in-Edition w ↦ let e = rw w.w-is at c.byte.ensures in omega arith

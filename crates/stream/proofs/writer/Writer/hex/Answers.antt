@@ -19,7 +19,7 @@ pub loop-b-preserved : goal.loop-b-preserved
 loop-b-preserved c =
     let two = adds_more c.byte.ensures c.byte-in-loop-b.ensures in
     rw (take_more c.args.bytes.now c.loop-b.b-index 0 c.loop-b-test.true, hex_append)
-    (adds_more c.loop-b.invariant (rw (c.hex-digit.ensures, c.hex-digit-in-loop-b.ensures) at two))
+    (adds_more c.loop-b.invariant (rw (c.hex_digit.ensures, c.hex_digit-in-loop-b.ensures) at two))
 
 pub returns : goal.returns
 returns c = rw (take_all c.loop-b.b-index c.args.bytes.now c.loop-b-test.false) at c.loop-b.invariant
