@@ -1,10 +1,10 @@
 -- One more element of a list, and the least so far.
-use Rattle.std.proofs.Common.{◌≡◌, ℕ, ◌+◌, ◌<◌, ◌≤◌, ◌⊎◌, List, length, get_or, ap, subst, inl, inr, arith}
+use Rattle.std.proofs.Common.{◌≡◌, ℕ, ◌+◌, ◌<◌, ◌≤◌, ◌⊎◌, List, length, get_or, sym, ap, subst, inl, inr, arith}
 use Rattle.std.proofs.lemmas.List.{get_or_default}
 use Rattle.measure.specs.Measure.{Ordered}
 use Rattle.survey.specs.declared.types.Sort.{Sort}
 use Rattle.survey.proofs.Basics.{below_or_at}
-use Rattle.survey.specs.Steps.{AllGood, Floor, LeastIn}
+use Rattle.survey.specs.Steps.{AllGood, LeastIn}
 
 -- the cost at k, where s is what stands past the end
 abbrev pub cost_at : {C : Type 0} → List (Sort C) → ℕ → Sort C → C
@@ -37,8 +37,3 @@ module _ {C : Type 0} {good : C → Type 0} {le : C → C → Type 0} (o : Order
       go : (k < i) ⊎ (k ≡ i) → le (cost_at xs i u) (cost_at xs k u)
       go (inl lt) = o.trans _ _ _ (all i u hi) (all best u hb) (all k u (omega arith)) flipped (inv k u lo lt)
       go (inr e) = rw e (self _ (all i u hi))
-
-  -- one that costs no more than what none is below
-  pub lowest : (a i : ℕ) (s : Sort C) (c : C) → i < to → good c → Floor le xs a to c → le (cost_at xs i s) c → LeastIn le xs a to i
-  lowest a i s c hi fine floor h k u lo hi' =
-      o.trans _ _ _ (all i u hi) fine (all k u hi') (subst (λ (x : C). le x c) (same i s u (omega arith)) h) (floor k u lo hi')

@@ -4,5 +4,5 @@ mod Finishes
 mod Loops
 mod Puts
 mod Relaxes
-mod KeptTrees
+mod Stocking
 mod Swaps

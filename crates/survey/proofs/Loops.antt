@@ -1,12 +1,14 @@
 -- The steps of the loops.
-use Rattle.std.proofs.Common.{◌≡◌, ℕ, ◌+◌, ◌<◌, ◌≤◌, ◌⊎◌, sym, refl, ap, subst, inl, inr, arith}
+use Rattle.std.proofs.Common.{◌≡◌, ℕ, ◌+◌, ◌<◌, ◌≤◌, ◌≢◌, ◌⊎◌, List, sym, refl, ap, ◌∙◌, subst, inl, inr, arith}
+use Rattle.survey.specs.declared.types.Standings.{Standings}
 use Rattle.survey.specs.declared.types.Sort.{Sort}
+use Rattle.forest.specs.declared.fault.Fault.{Fault}
 use Rattle.survey.specs.declared.types.First.TheVariants.{Nothing}
-use Rattle.survey.proofs.Basics.{below_or_at, covering_on, good_at, le_self}
-use Rattle.survey.specs.Survey.{Covers, Setting}
+use Rattle.survey.proofs.Basics.{below_or_at, covering_on, good_at, grown_trans, le_self}
+use Rattle.survey.specs.Survey.{Covers, Refused, Setting, blank, entry}
 use Rattle.forest.specs.Forest.{Forest, nil}
 use Rattle.survey.specs.declared.types.Leaves.{Leaves}
-use Rattle.survey.specs.Steps.{Closed, Floored, Formed, Grown, Kept, NodeCovered, NodesAround, Sound, TextCovered, TreeCovered, as_nil, node_cost}
+use Rattle.survey.specs.Steps.{Closed, Covered, Formed, Grown, Kept, NodeCovered, NodesAround, Sound, TextCovered, TreeCovered, as_nil, node_cost, text_cost}
 
 -- another count of the same room
 pub kept_cap : {C : Type 0} {Γ : Setting C} {e : ℕ → Sort C} {done len cap cap' : ℕ} → cap ≡ cap' → Kept Γ e done len cap → Kept Γ e done len cap'
@@ -14,6 +16,9 @@ kept_cap {Γ} {e} {done} {len} eq h = subst (λ (c : ℕ). Kept Γ e done len c)
 
 pub grown_cap : {C : Type 0} {Γ : Setting C} {e e' : ℕ → Sort C} {done len n cap cap' : ℕ} → cap ≡ cap' → Grown Γ e e' done len n cap → Grown Γ e e' done len n cap'
 grown_cap {Γ} {e} {e'} {done} {len} {n} eq h = subst (λ (c : ℕ). Grown Γ e e' done len n c) eq h
+
+pub refused_cap : {C : Type 0} {Γ : Setting C} {cap cap' : ℕ} {f : Fault} → cap ≡ cap' → Refused Γ cap f → Refused Γ cap' f
+refused_cap {Γ} {f} eq h = subst (λ (c : ℕ). Refused Γ c f) eq h
 
 pub covered_node : {C : Type 0} (Γ : Setting C) (e : ℕ → Sort C) (n l : ℕ) (x x' y y' : Sort C) → x ≡ x' → y ≡ y' → NodeCovered Γ l x y e n → NodeCovered Γ l x' y' e n
 covered_node {C} Γ e n l x x' y y' p q z = subst (λ (u : Sort C). NodeCovered Γ l u y' e n) p (subst (λ (u : Sort C). NodeCovered Γ l x u e n) q z)
@@ -55,15 +60,6 @@ module _ {C : Type 0} {Γ : Setting C} (so : Sound Γ) where
       go_node i c r hi hc hr (inl lc) (inr p) = covered_node Γ e' n (Γ.sorts.label i) (e c) (e c) (e last) (e r) refl (ap e (sym p)) (labels i c hi hc).1
       go_node i c r hi hc hr (inr p) q = covered_node Γ e' n (Γ.sorts.label i) (e last) (e c) (e r) (e r) (ap e (sym p)) refl (labels i r hi hr).0
 
-  -- what was settled last costs no more than what is not settled
-  pub floored_more : (e e' : ℕ → Sort C) (last len n cap : ℕ) → Grown Γ e e' (last + 1) len n cap → Floored Γ e' (last + 1) n (e last).cost
-  floored_more e e' last len n cap g =
-      let same = g.same last (omega arith) in
-      record {
-        good = good_at Γ (e' last) (e last) (sym same) (g.kept.fine last (omega (arith, g.kept.within)));
-        below = λ k lo hi. subst (λ (y : Sort C). Γ.le y.cost (e' k).cost) same (g.kept.ascending last k (omega arith) (omega arith) hi);
-      }
-
   -- nil alone
   module _ (e : ℕ → Sort C) (cap : ℕ) (room : 0 < cap) (first : (e 0).first ≡ Nothing) (s : Γ.sorts.has nil (e 0).standings) (c : (e 0).cost ≡ Γ.costs.of_nil) (l : (e 0).length ≡ 0) where
     at_zero : (k : ℕ) → k < 1 → e k ≡ e 0
@@ -91,11 +87,4 @@ module _ {C : Type 0} {Γ : Setting C} (so : Sound Γ) where
           bare = (0, omega arith, s, subst (Γ.le (e 0).cost) c (le_self so (e 0).cost fine_zero));
           texts = λ r h. absurd (omega arith);
           nodes = λ i a r hi ha hr. absurd (omega arith);
-        }
-
-    pub start_floored : Floored Γ e 0 1 Γ.costs.of_nil
-    start_floored =
-        record {
-          good = so.laws.good_nil;
-          below = λ k lo hi. subst (λ (x : C). Γ.le x (e k).cost) c (subst (λ (y : Sort C). Γ.le (e 0).cost y.cost) (sym (at_zero k hi)) (le_self so (e 0).cost fine_zero));
         }

@@ -1,30 +1,26 @@
 -- An offer, as a step of the survey.
-use Rattle.std.proofs.Common.{◌≡◌, ℕ, ◌+◌, ◌<◌, ◌≤◌, ◌⊎◌, List, length, get_or, Some, None, Ok, Err, Result, sym, refl, ◌∙◌, subst, inl, inr, arith}
+use Rattle.std.proofs.Common.{◌≡◌, ℕ, ◌+◌, ◌<◌, ◌≤◌, ◌≢◌, ◌⊎◌, List, length, get_or, set, Some, None, Ok, Err, Result, sym, refl, ap, ◌∙◌, subst, inl, inr, arith}
 use Rattle.std.proofs.lemmas.List.{get_or_default}
 use Rattle.survey.specs.declared.types.Standings.{Standings}
 use Rattle.survey.specs.declared.types.Sort.{Sort}
 use Rattle.forest.specs.declared.fault.Fault.{Fault}
 use Rattle.survey.specs.declared.types.First.TheVariants.{Text, Node}
 use Rattle.survey.specs.declared.types.Tree.{Tree}
-use Rattle.survey.specs.KeptTrees.{OverEntry, Joins}
-use Rattle.survey.proofs.Basics.{below_or_not, covered_at, covers_by, grown_none}
+use Rattle.survey.specs.Stocks.{Rooted, Joins}
+use Rattle.survey.proofs.Basics.{below_or_not, covered_at, covers_by, grown_none, le_self}
 use Rattle.survey.proofs.Puts.{taken}
 use Rattle.survey.proofs.Finishes.{too_many}
 use Rattle.survey.specs.Survey.{Setting, blank, entry}
-use Rattle.forest.specs.Forest.{nil, text, node, Label}
+use Rattle.forest.specs.Forest.{Forest, nil, text, node, Label}
 use Rattle.measure.specs.Lengths.{ceiling}
 use Rattle.survey.specs.Sorting.{TextSort, NodeSort}
-use Rattle.survey.specs.Steps.{AllGood, Floor, Floored, Formed, Kept, NodeOf, Offer, Relaxed, Sound, TextCovered, Texted, TreeCovered, as_nil, as_node, as_text, node_cost, node_length, text_cost, text_length}
+use Rattle.survey.specs.Steps.{AllGood, Formed, Grown, Kept, NodeOf, Offer, Relaxed, Sound, TextCovered, Texted, TreeCovered, as_nil, as_node, as_text, node_cost, node_length, text_cost, text_length}
 
 -- what the list's `fine` says at any default
 pub all_good : {C : Type 0} (Γ : Setting C) (xs : List (Sort C)) (done len : ℕ) → Kept Γ (entry Γ xs) done len (length xs) → AllGood Γ.good xs len
 all_good {C} Γ xs done len kept k d h =
     let fits : len ≤ length xs = kept.fits in
     subst (λ (x : Sort C). Γ.good x.cost) (get_or_default xs k (blank Γ) d (omega arith)) (kept.fine k h)
-
-pub floor_of : {C : Type 0} (Γ : Setting C) (xs : List (Sort C)) (done len : ℕ) (c : C) → len ≤ length xs → Floored Γ (entry Γ xs) done len c → Floor Γ.le xs done len c
-floor_of {C} Γ xs done len c fits floored k d lo hi =
-    subst (λ (x : Sort C). Γ.le c x.cost) (get_or_default xs k (blank Γ) d (omega arith)) (floored.below k lo hi)
 
 -- a read, at the blank
 pub read : {C : Type 0} (Γ : Setting C) (xs : List (Sort C)) (k : ℕ) (x : Sort C) → k < length xs → x ≡ get_or xs k x → x ≡ entry Γ xs k
@@ -126,12 +122,12 @@ module _ {C : Type 0} {Γ : Setting C} (so : Sound Γ) (xs : List (Sort C)) (las
       go (node l c f) p = covers_by Γ (entry Γ ys) n σ _ (node l c f) z.1 (s l c f p.0 p.1 p.2)
   joins t rest σ s ys (Err f) z = z
 
-  pub joins_node : (t : Tree) (rest : ℕ) (x : Sort C) → OverEntry Γ (entry Γ xs) (last + 1) t → rest ≤ last → (t.content ≡ last) ⊎ (rest ≡ last)
+  pub joins_node : (t : Tree) (rest : ℕ) (x : Sort C) → Rooted Γ (entry Γ xs) (last + 1) t → rest ≤ last → (t.content ≡ last) ⊎ (rest ≡ last)
       → x.first ≡ Node t.label → x.content ≡ t.content → x.rest ≡ rest
       → NodeSort Γ.sorts t.leaves (entry Γ xs rest).standings x.standings → x.cost ≡ node_cost Γ (entry Γ xs t.content) (entry Γ xs rest) → x.length ≡ node_length (entry Γ xs t.content).length (entry Γ xs rest).length
       → (ys : List (Sort C)) (r : Result ℕ Fault) → Offer Γ.le (blank Γ) xs len x ys r
       → Joins Γ xs last len t rest ys r
-  joins_node t rest x over hr new first inner after s c l ys r o =
+  joins_node t rest x rooted hr new first inner after s c l ys r o =
       joins t rest x.standings s ys r
-      (relaxed_node t.label t.content rest x over.label (omega (arith, over.content)) hr new first inner after
-      (λ k f ck cf hk hf. s t.label k f (so.sorted.node_counts t.label k f over.label ck cf) (over.leaves k ck hk) hf) c l ys r o)
+      (relaxed_node t.label t.content rest x rooted.label (omega (arith, rooted.content)) hr new first inner after
+      (λ k f ck cf hk hf. s t.label k f (so.sorted.node_counts t.label k f rooted.label ck cf) (rooted.leaves k ck hk) hf) c l ys r o)

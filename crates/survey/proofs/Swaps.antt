@@ -1,10 +1,10 @@
 -- The cheapest tentative entry is settled.
-use Rattle.std.proofs.Common.{◌≡◌, ℕ, ◌+◌, ◌<◌, ◌≤◌, ◌≢◌, ◌⊎◌, sym, refl, ap, ◌∙◌, subst, inl, inr, arith}
+use Rattle.std.proofs.Common.{◌≡◌, ℕ, ◌+◌, ◌<◌, ◌≤◌, ◌≢◌, ◌⊎◌, List, sym, refl, ap, ◌∙◌, subst, inl, inr, arith}
 use Rattle.survey.specs.declared.types.Standings.{Standings}
 use Rattle.survey.specs.declared.types.Sort.{Sort}
 use Rattle.survey.specs.declared.types.Tree.{Tree}
-use Rattle.survey.specs.KeptTrees.{TreeTable}
-use Rattle.survey.proofs.KeptTrees.{joined_move, met_move, over_move}
+use Rattle.survey.specs.Stocks.{Stocked}
+use Rattle.survey.proofs.Stocking.{joined_move, met_move, rooted_move}
 use Rattle.survey.proofs.Loops.{covered_node, covered_text}
 use Rattle.survey.proofs.Basics.{same_or_not, below_or_at, formed_at, good_at, le_at, standings_at}
 use Rattle.forest.specs.Forest.{Forest, nil}
@@ -99,14 +99,14 @@ module _ {C : Type 0} {Γ : Setting C} (so : Sound Γ) (e e' : ℕ → Sort C) (
         nodes = λ i c r li lc lr. covered_node Γ e' len (Γ.sorts.label i) (e c) (e' c) (e r) (e' r) (sym (still c lc)) (sym (still r lr)) (swap_covering _ _ (h.nodes i c r li lc lr));
       }
 
-  pub swap_trees : (ts : ℕ → Tree) (n whole room : ℕ) → TreeTable Γ e ts n whole done len room → TreeTable Γ e' ts n whole done len room
-  swap_trees ts n whole room h =
+  pub swap_stocked : (ts : ℕ → Tree) (n whole room : ℕ) → Stocked Γ e ts n whole done len room → Stocked Γ e' ts n whole done len room
+  swap_stocked ts n whole room h =
       record {
         fits = h.fits;
         within = h.within;
         trees = record {
-          over = λ t lt. over_move e e' done done (ts t) (omega arith) still (h.trees.over t lt);
-          joined = λ t r lt lr. joined_move Γ e e' e' len (ts t) r (sym (still (ts t).content (h.trees.over t lt).content)) (sym (still r lr)) (swap_covering _ _ (h.trees.joined t r lt lr));
+          rooted = λ t lt. rooted_move e e' done done (ts t) (omega arith) still (h.trees.rooted t lt);
+          joined = λ t r lt lr. joined_move Γ e e' e' len (ts t) r (sym (still (ts t).content (h.trees.rooted t lt).content)) (sym (still r lr)) (swap_covering _ _ (h.trees.joined t r lt lr));
         };
         met = λ i c hi hc.
             met_move Γ e e' ts n i c (sym (still c (omega (arith, h.within)))) (h.met i c hi hc);

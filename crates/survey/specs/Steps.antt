@@ -8,7 +8,7 @@ use Rattle.survey.specs.declared.types.Standings.{Standings}
 use Rattle.survey.specs.declared.types.Leaves.{Leaves}
 use Rattle.survey.specs.declared.types.Sort.{Sort}
 use Rattle.survey.specs.declared.types.First.TheVariants.{Nothing, Text, Node}
-use Rattle.survey.specs.Sorting.{Sorts, Like, TextSort}
+use Rattle.survey.specs.Sorting.{Sorts, Like, TextSort, NodeLeaves, NodeSort}
 use Rattle.survey.specs.Survey.{Setting, entry, Covers, Refused}
 
 -- the laws that the measure and the sorting give
@@ -54,11 +54,6 @@ pub record Kept {C : Type 0} (Γ : Setting C) (e : ℕ → Sort C) (done len cap
   pub tentative : (k : ℕ) → done ≤ k → k < len → Formed Γ e done (e k)
   pub fine : (k : ℕ) → k < len → Γ.good (e k).cost
   pub ascending : (i j : ℕ) → i < done → i ≤ j → j < len → Γ.le (e i).cost (e j).cost
-
--- c is a cost, and no entry that is not settled costs less
-pub record Floored {C : Type 0} (Γ : Setting C) (e : ℕ → Sort C) (done len : ℕ) (c : C) : Type 0 where
-  pub good : Γ.good c
-  pub below : (k : ℕ) → done ≤ k → k < len → Γ.le c (e k).cost
 
 -- of a list
 abbrev pub Keeps : {C : Type 0} → Setting C → List (Sort C) → ℕ → ℕ → Type 0
@@ -122,10 +117,6 @@ Seen {C} xs len σ None = Unit {0}
 -- the entry at r costs at most as much as each from a on and before b
 abbrev pub LeastIn : {C : Type 0} → (C → C → Type 0) → List (Sort C) → ℕ → ℕ → ℕ → Type 0
 LeastIn {C} le xs a b r = (k : ℕ) (d : Sort C) → a ≤ k → k < b → le (get_or xs r d).cost (get_or xs k d).cost
-
--- none from a on and before b costs less than c
-abbrev pub Floor : {C : Type 0} → (C → C → Type 0) → List (Sort C) → ℕ → ℕ → C → Type 0
-Floor {C} le xs a b c = (k : ℕ) (d : Sort C) → a ≤ k → k < b → le c (get_or xs k d).cost
 
 -- the costs of the first `len` are costs
 abbrev pub AllGood : {C : Type 0} → (C → Type 0) → List (Sort C) → ℕ → Type 0

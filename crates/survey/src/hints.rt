@@ -1,95 +1,84 @@
-// Finding a sort in the list, or a tree among those kept. Hints hold places under mixed keys: what they say is only ever
-// tried, and what they do not know is looked for.
+// Finding a sort in the list, or a tree among those kept. An index of hints holds places under mixed keys: what it
+// says is only ever tried, and what it does not know is looked for.
 ghost use Rattle.std.specs.Prelude.{◌≡◌, ◌<◌, ◌≤◌, true, length};
 ghost use Rattle.survey.specs.Steps.{Found, Seen};
-ghost use Rattle.survey.specs.KeptTrees.{tree_at, Alike};
+ghost use Rattle.survey.specs.Stocks.{root_at, Alike};
 
 use crate::types::{Leaves, Sort, Standings, Tree};
 
-// How many slots there are, and how many of them are tried for a key.
-const SLOTS: usize = 8192;
-
+// How many slots are tried for a key.
 const PROBES: usize = 16;
 
-// Places under keys: a slot has 0 if it is free, else a place and 1.
-#[derive(Clone, Copy)]
-pub struct Hints {
-    slots: [u16; SLOTS],
-}
-
-// A key for two sets of places. Its highest bits depend on every bit of both.
+// A key for two sets of places.
 fn mixed(old: u64, new: u64) -> u64 {
     old.wrapping_mul(0x9E37_79B9_7F4A_7C15)
-        .wrapping_add(new.wrapping_mul(0xC2B2_AE3D_27D4_EB4F))
+        ^ new.wrapping_mul(0xC2B2_AE3D_27D4_EB4F).rotate_left(29)
 }
 
-pub(crate) fn sort_key(standings: Standings) -> u64 {
+pub fn sort_key(standings: Standings) -> u64 {
     mixed(standings.old, standings.new)
 }
 
-pub(crate) fn tree_key(leaves: Leaves) -> u64 {
+pub fn tree_key(leaves: Leaves) -> u64 {
     mixed(leaves.old, leaves.new)
 }
 
-// The slot that is tried for a key at a step: the first by its 13 highest bits, then those behind it.
-fn slot(key: u64, step: usize) -> usize
-    requires { step < 16 }
-    ensures { result < 8192 }
+// The slot of an index of `slots` that is tried at a step.
+fn slot(key: u64, step: usize, slots: usize) -> usize
+    requires { 0 < slots }
+    ensures { result < slots }
 {
-    ((key >> 51) as usize + step) % SLOTS
+    ((key >> 32) as usize).wrapping_add(step) % slots
 }
 
-impl Hints {
-    pub(crate) fn new() -> Hints {
-        Hints { slots: [0; SLOTS] }
+// Writes a place down under a key.
+pub fn note(index: &mut [u16], key: u64, place: usize) {
+    if index.len() == 0 || place >= 65535 {
+        return;
     }
-
-    // Writes a place down under a key.
-    pub(crate) fn note(&mut self, key: u64, place: usize) {
-        if place >= 65535 {
+    for step in 0..PROBES {
+        let at = slot(key, step, index.len());
+        if index[at] == 0 {
+            index[at] = (place + 1) as u16;
             return;
         }
-        for step in 0..PROBES {
-            let at = slot(key, step);
-            if self.slots[at] == 0 {
-                self.slots[at] = (place + 1) as u16;
-                return;
-            }
-        }
-        let at = slot(key, 0);
-        self.slots[at] = (place + 1) as u16;
     }
+    let at = slot(key, 0, index.len());
+    index[at] = (place + 1) as u16;
+}
 
-    // The slot that has a place under a key.
-    pub(crate) fn noted(&self, key: u64, place: usize) -> Option<usize> {
-        for step in 0..PROBES {
-            let at = slot(key, step);
-            let noted = self.slots[at] as usize;
-            if noted > place && noted - 1 == place {
-                return Some(at);
-            }
-        }
-        None
+// The slot that has a place under a key, or the number of slots.
+pub fn noted(index: &[u16], key: u64, place: usize) -> usize {
+    if index.len() == 0 {
+        return 0;
     }
-
-    // Another place in a slot.
-    pub(crate) fn renote(&mut self, at: Option<usize>, place: usize) {
-        if let Some(at) = at {
-            if at < SLOTS && place < 65535 {
-                self.slots[at] = (place + 1) as u16;
-            }
+    for step in 0..PROBES {
+        let at = slot(key, step, index.len());
+        if index[at] as usize > place && index[at] as usize - 1 == place {
+            return at;
         }
+    }
+    index.len()
+}
+
+// Another place in a slot.
+pub fn renote(index: &mut [u16], at: usize, place: usize) {
+    if at < index.len() && place < 65535 {
+        index[at] = (place + 1) as u16;
     }
 }
 
-// A place that the hints have for the sort, tried.
-fn look<C: Copy>(hints: &Hints, list: &[Sort<C>], len: usize, standings: Standings) -> Option<usize>
+// A place that the index has for the sort, tried.
+fn look<C: Copy>(index: &[u16], list: &[Sort<C>], len: usize, standings: Standings) -> Option<usize>
     requires { len ≤ length list.now }
     ensures { Seen list.now len standings result }
 {
+    if index.len() == 0 {
+        return None;
+    }
     let key = sort_key(standings);
     for step in 0..PROBES {
-        let place = hints.slots[slot(key, step)] as usize;
+        let place = index[slot(key, step, index.len())] as usize;
         if place == 0 {
             return None;
         }
@@ -117,8 +106,8 @@ fn scan<C: Copy>(list: &[Sort<C>], len: usize, standings: Standings) -> Option<u
 }
 
 // Where a sort stands among the first `len`.
-pub(crate) fn find<C: Copy>(
-    hints: &mut Hints,
+pub fn find<C: Copy>(
+    index: &mut [u16],
     list: &[Sort<C>],
     len: usize,
     standings: Standings,
@@ -126,13 +115,13 @@ pub(crate) fn find<C: Copy>(
     requires { len ≤ length list.now }
     ensures { Found list.now len standings result }
 {
-    match look(hints, list, len, standings) {
+    match look(index, list, len, standings) {
         Some(k) => Some(k),
         None => {
             let found = scan(list, len, standings);
             match found {
-                Some(k) => hints.note(sort_key(standings), k),
-                None => hints.note(sort_key(standings), len),
+                Some(k) => note(index, sort_key(standings), k),
+                None => note(index, sort_key(standings), len),
             }
             found
         }
@@ -140,13 +129,16 @@ pub(crate) fn find<C: Copy>(
 }
 
 // Whether a tree with these leaves is known to be kept.
-pub(crate) fn known(hints: &Hints, trees: &[Tree], kept: usize, leaves: Leaves) -> bool
+pub fn known(index: &[u16], trees: &[Tree], kept: usize, leaves: Leaves) -> bool
     requires { kept ≤ length trees.now }
-    ensures { result ≡ true → Alike (tree_at trees.now) kept leaves }
+    ensures { result ≡ true → Alike (root_at trees.now) kept leaves }
 {
+    if index.len() == 0 {
+        return false;
+    }
     let key = tree_key(leaves);
     for step in 0..PROBES {
-        let place = hints.slots[slot(key, step)] as usize;
+        let place = index[slot(key, step, index.len())] as usize;
         if place == 0 {
             return false;
         }

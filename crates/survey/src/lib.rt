@@ -12,7 +12,6 @@ ghost use Rattle.std.specs.Prelude.{◌≡◌};
 ghost use Rattle.survey.specs.Survey.{setting, Survey};
 
 use forest::Fault;
-use hints::Hints;
 use list::settle;
 use measure::Measure;
 use relax::relax_all;
@@ -20,16 +19,20 @@ pub use sorting::Sorting;
 use types::Tree;
 pub use types::{First, Leaves, Sort, Standings};
 
-// How many trees are kept.
+// How many trees are kept, and how large the indexes of hints are.
 const TREES: usize = 4096;
+
+const SORT_HINTS: usize = 2048;
+
+const TREE_HINTS: usize = 8192;
 
 // The survey, with room for some trees and hints.
 fn survey_with<S: Sorting, M: Measure>(
     sorting: &S,
     measure: &M,
-    hints: &mut Hints,
+    index: &mut [u16],
     list: &mut [Sort<M::Cost>],
-    tree_hints: &mut Hints,
+    shelf: &mut [u16],
     trees: &mut [Tree],
 ) -> Result<usize, Fault>
     ensures { Survey (setting (M.Measure.model measure.now) (S.Sorting.model sorting.now)) list.new result }
@@ -51,15 +54,14 @@ fn survey_with<S: Sorting, M: Measure>(
         content: 0,
         rest: 0,
     };
-    let mut floor = cost;
     let mut done = 0;
     let mut len = 1;
     let mut kept = 0;
     let mut whole = 0;
     while done < len {
-        floor = settle(measure, hints, list, done, len, floor);
+        settle(measure, index, list, done, len);
         let step = relax_all(
-            sorting, measure, hints, list, done, len, tree_hints, trees, kept, whole,
+            sorting, measure, index, list, done, len, shelf, trees, kept, whole,
         )?;
         len = step.len;
         kept = step.kept;
@@ -83,14 +85,7 @@ pub fn survey<S: Sorting, M: Measure>(
         label: 0,
         content: 0,
     }; TREES];
-    let mut hints = Hints::new();
-    let mut tree_hints = Hints::new();
-    survey_with(
-        sorting,
-        measure,
-        &mut hints,
-        list,
-        &mut tree_hints,
-        &mut trees,
-    )
+    let mut index = [0; SORT_HINTS];
+    let mut shelf = [0; TREE_HINTS];
+    survey_with(sorting, measure, &mut index, list, &mut shelf, &mut trees)
 }

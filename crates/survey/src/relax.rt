@@ -2,9 +2,9 @@
 ghost use Rattle.std.specs.Prelude.{◌≡◌, ◌+◌, ◌≤◌, ◌⊎◌, length};
 ghost use Rattle.survey.specs.Survey.{setting};
 ghost use Rattle.survey.specs.Steps.{Keeps, Texted};
-ghost use Rattle.survey.specs.KeptTrees.{tree_at, TreeOver, TreesOver, Joins, Over, Before, Each, Beyond, JoinedTrees, New, Fresh, Table, Around};
+ghost use Rattle.survey.specs.Stocks.{root_at, Root, Roots, Joins, Over, Before, Each, Beyond, Grove, New, Fresh, Stock, Around};
 
-use crate::hints::{Hints, known, tree_key};
+use crate::hints::{known, note, tree_key};
 use crate::list::offer;
 use crate::sorting::Sorting;
 use crate::types::{First, Round, Sort, Step, Tree};
@@ -15,7 +15,7 @@ use measure::{Length, Measure};
 fn relax_text<S: Sorting, M: Measure>(
     sorting: &S,
     measure: &M,
-    hints: &mut Hints,
+    index: &mut [u16],
     list: &mut [Sort<M::Cost>],
     last: usize,
     len: usize,
@@ -37,7 +37,7 @@ fn relax_text<S: Sorting, M: Measure>(
                 content: 0,
                 rest: last,
             };
-            offer(measure, hints, list, len, sort)
+            offer(measure, index, list, len, sort)
         }
     }
 }
@@ -46,7 +46,7 @@ fn relax_text<S: Sorting, M: Measure>(
 fn relax_node<S: Sorting, M: Measure>(
     sorting: &S,
     measure: &M,
-    hints: &mut Hints,
+    index: &mut [u16],
     list: &mut [Sort<M::Cost>],
     last: usize,
     len: usize,
@@ -54,7 +54,7 @@ fn relax_node<S: Sorting, M: Measure>(
     rest: usize,
 ) -> Result<usize, Fault>
     requires kept { Keeps (setting (M.Measure.model measure.now) (S.Sorting.model sorting.now)) list.old (last + 1) len }
-    requires over { TreeOver (setting (M.Measure.model measure.now) (S.Sorting.model sorting.now)) list.old (last + 1) tree }
+    requires rooted { Root (setting (M.Measure.model measure.now) (S.Sorting.model sorting.now)) list.old (last + 1) tree }
     requires bounds { rest ≤ last }
     requires new { (tree.content ≡ last) ⊎ (rest ≡ last) }
     ensures { Joins (setting (M.Measure.model measure.now) (S.Sorting.model sorting.now)) list.old last len tree rest list.new result }
@@ -72,27 +72,27 @@ fn relax_node<S: Sorting, M: Measure>(
         content: tree.content,
         rest,
     };
-    offer(measure, hints, list, len, sort)
+    offer(measure, index, list, len, sort)
 }
 
 // A tree over the entry settled last, before each settled entry.
 fn relax_over<S: Sorting, M: Measure>(
     sorting: &S,
     measure: &M,
-    hints: &mut Hints,
+    index: &mut [u16],
     list: &mut [Sort<M::Cost>],
     last: usize,
     len: usize,
     tree: Tree,
 ) -> Result<usize, Fault>
     requires kept { Keeps (setting (M.Measure.model measure.now) (S.Sorting.model sorting.now)) list.old (last + 1) len }
-    requires over { TreeOver (setting (M.Measure.model measure.now) (S.Sorting.model sorting.now)) list.old (last + 1) tree }
+    requires rooted { Root (setting (M.Measure.model measure.now) (S.Sorting.model sorting.now)) list.old (last + 1) tree }
     requires new { tree.content ≡ last }
     ensures { Over (setting (M.Measure.model measure.now) (S.Sorting.model sorting.now)) list.old last len tree list.new result }
 {
     let mut found = len;
     for k in 0..last + 1 {
-        found = relax_node(sorting, measure, hints, list, last, found, tree, k)?;
+        found = relax_node(sorting, measure, index, list, last, found, tree, k)?;
     }
     Ok(found)
 }
@@ -101,7 +101,7 @@ fn relax_over<S: Sorting, M: Measure>(
 fn relax_before<S: Sorting, M: Measure>(
     sorting: &S,
     measure: &M,
-    hints: &mut Hints,
+    index: &mut [u16],
     list: &mut [Sort<M::Cost>],
     last: usize,
     len: usize,
@@ -110,12 +110,12 @@ fn relax_before<S: Sorting, M: Measure>(
 ) -> Result<usize, Fault>
     requires kept { Keeps (setting (M.Measure.model measure.now) (S.Sorting.model sorting.now)) list.old (last + 1) len }
     requires bounds { kept ≤ length trees.now }
-    requires over { TreesOver (setting (M.Measure.model measure.now) (S.Sorting.model sorting.now)) list.old trees.now kept (last + 1) }
-    ensures { Before (setting (M.Measure.model measure.now) (S.Sorting.model sorting.now)) list.old last len (tree_at trees.now) kept list.new result }
+    requires rooted { Roots (setting (M.Measure.model measure.now) (S.Sorting.model sorting.now)) list.old trees.now kept (last + 1) }
+    ensures { Before (setting (M.Measure.model measure.now) (S.Sorting.model sorting.now)) list.old last len (root_at trees.now) kept list.new result }
 {
     let mut found = len;
     for t in 0..kept {
-        found = relax_node(sorting, measure, hints, list, last, found, trees[t], last)?;
+        found = relax_node(sorting, measure, index, list, last, found, trees[t], last)?;
     }
     Ok(found)
 }
@@ -124,7 +124,7 @@ fn relax_before<S: Sorting, M: Measure>(
 fn relax_each<S: Sorting, M: Measure>(
     sorting: &S,
     measure: &M,
-    hints: &mut Hints,
+    index: &mut [u16],
     list: &mut [Sort<M::Cost>],
     last: usize,
     len: usize,
@@ -144,7 +144,7 @@ fn relax_each<S: Sorting, M: Measure>(
             label,
             content,
         };
-        found = relax_node(sorting, measure, hints, list, last, found, tree, last)?;
+        found = relax_node(sorting, measure, index, list, last, found, tree, last)?;
     }
     Ok(found)
 }
@@ -153,7 +153,7 @@ fn relax_each<S: Sorting, M: Measure>(
 fn relax_rests<S: Sorting, M: Measure>(
     sorting: &S,
     measure: &M,
-    hints: &mut Hints,
+    index: &mut [u16],
     list: &mut [Sort<M::Cost>],
     last: usize,
     len: usize,
@@ -165,7 +165,7 @@ fn relax_rests<S: Sorting, M: Measure>(
 {
     let mut found = len;
     for c in whole..last {
-        found = relax_each(sorting, measure, hints, list, last, found, c)?;
+        found = relax_each(sorting, measure, index, list, last, found, c)?;
     }
     Ok(found)
 }
@@ -174,25 +174,25 @@ fn relax_rests<S: Sorting, M: Measure>(
 fn relax_new<S: Sorting, M: Measure>(
     sorting: &S,
     measure: &M,
-    hints: &mut Hints,
+    index: &mut [u16],
     list: &mut [Sort<M::Cost>],
     last: usize,
-    tree_hints: &mut Hints,
+    shelf: &mut [u16],
     trees: &mut [Tree],
     round: Round,
     tree: Tree,
 ) -> Result<Round, Fault>
     requires kept { Keeps (setting (M.Measure.model measure.now) (S.Sorting.model sorting.now)) list.old (last + 1) round.len }
     requires bounds { round.kept ≤ length trees.old }
-    requires trees { JoinedTrees (setting (M.Measure.model measure.now) (S.Sorting.model sorting.now)) list.old trees.old round.kept (last + 1) round.len }
-    requires over { TreeOver (setting (M.Measure.model measure.now) (S.Sorting.model sorting.now)) list.old (last + 1) tree }
+    requires trees { Grove (setting (M.Measure.model measure.now) (S.Sorting.model sorting.now)) list.old trees.old round.kept (last + 1) round.len }
+    requires rooted { Root (setting (M.Measure.model measure.now) (S.Sorting.model sorting.now)) list.old (last + 1) tree }
     requires new { tree.content ≡ last }
     ensures { New (setting (M.Measure.model measure.now) (S.Sorting.model sorting.now)) list.old last trees.old round tree list.new trees.new result }
 {
-    if known(tree_hints, trees, round.kept, tree.leaves) {
+    if known(shelf, trees, round.kept, tree.leaves) {
         return Ok(round);
     }
-    let found = relax_over(sorting, measure, hints, list, last, round.len, tree)?;
+    let found = relax_over(sorting, measure, index, list, last, round.len, tree)?;
     if round.kept >= trees.len() {
         return Ok(Round {
             len: found,
@@ -200,7 +200,7 @@ fn relax_new<S: Sorting, M: Measure>(
             full: true,
         });
     }
-    tree_hints.note(tree_key(tree.leaves), round.kept);
+    note(shelf, tree_key(tree.leaves), round.kept);
     trees[round.kept] = tree;
     Ok(Round {
         len: found,
@@ -213,17 +213,17 @@ fn relax_new<S: Sorting, M: Measure>(
 fn relax_trees<S: Sorting, M: Measure>(
     sorting: &S,
     measure: &M,
-    hints: &mut Hints,
+    index: &mut [u16],
     list: &mut [Sort<M::Cost>],
     last: usize,
     len: usize,
-    tree_hints: &mut Hints,
+    shelf: &mut [u16],
     trees: &mut [Tree],
     kept: usize,
 ) -> Result<Round, Fault>
     requires kept { Keeps (setting (M.Measure.model measure.now) (S.Sorting.model sorting.now)) list.old (last + 1) len }
     requires bounds { kept ≤ length trees.old }
-    requires trees { JoinedTrees (setting (M.Measure.model measure.now) (S.Sorting.model sorting.now)) list.old trees.old kept (last + 1) len }
+    requires trees { Grove (setting (M.Measure.model measure.now) (S.Sorting.model sorting.now)) list.old trees.old kept (last + 1) len }
     ensures { Fresh (setting (M.Measure.model measure.now) (S.Sorting.model sorting.now)) list.old last len trees.old kept list.new trees.new result }
 {
     let inner = list[last];
@@ -241,34 +241,34 @@ fn relax_trees<S: Sorting, M: Measure>(
             content: last,
         };
         round = relax_new(
-            sorting, measure, hints, list, last, tree_hints, trees, round, tree,
+            sorting, measure, index, list, last, shelf, trees, round, tree,
         )?;
     }
     Ok(round)
 }
 
 // All that the entry settled last newly allows.
-pub(crate) fn relax_all<S: Sorting, M: Measure>(
+pub fn relax_all<S: Sorting, M: Measure>(
     sorting: &S,
     measure: &M,
-    hints: &mut Hints,
+    index: &mut [u16],
     list: &mut [Sort<M::Cost>],
     last: usize,
     len: usize,
-    tree_hints: &mut Hints,
+    shelf: &mut [u16],
     trees: &mut [Tree],
     kept: usize,
     whole: usize,
 ) -> Result<Step, Fault>
     requires kept { Keeps (setting (M.Measure.model measure.now) (S.Sorting.model sorting.now)) list.old (last + 1) len }
-    requires table { Table (setting (M.Measure.model measure.now) (S.Sorting.model sorting.now)) list.old trees.old kept whole last len }
+    requires stocked { Stock (setting (M.Measure.model measure.now) (S.Sorting.model sorting.now)) list.old trees.old kept whole last len }
     ensures { Around (setting (M.Measure.model measure.now) (S.Sorting.model sorting.now)) list.old last len (length trees.old) list.new trees.new result }
 {
-    let text = relax_text(sorting, measure, hints, list, last, len)?;
-    let before = relax_before(sorting, measure, hints, list, last, text, trees, kept)?;
-    let rests = relax_rests(sorting, measure, hints, list, last, before, whole)?;
+    let text = relax_text(sorting, measure, index, list, last, len)?;
+    let before = relax_before(sorting, measure, index, list, last, text, trees, kept)?;
+    let rests = relax_rests(sorting, measure, index, list, last, before, whole)?;
     let round = relax_trees(
-        sorting, measure, hints, list, last, rests, tree_hints, trees, kept,
+        sorting, measure, index, list, last, rests, shelf, trees, kept,
     )?;
     if round.full || whole < last {
         return Ok(Step {

@@ -1,17 +1,19 @@
-use Rattle.std.proofs.Common.{◌≡◌, ◌+◌, ◌<◌, ◌≤◌, length, set, sym, refl, ap, ◌∙◌, subst, arith, length-set, get_or-set_same, rules}
+use Rattle.std.proofs.Common.{◌≡◌, ℕ, ◌+◌, ◌<◌, ◌≤◌, Bool, true, false, ◌≢◌, ◌⊎◌, length, get_or, set, sym, refl, ap, ◌∙◌, subst, inl, inr, arith, length-set, get_or-set_same, rules}
+use Rattle.survey.specs.declared.types.Standings.{Standings}
 use Rattle.survey.specs.declared.types.Sort.{Sort}
-use Rattle.forest.specs.Forest.{nil}
+use Rattle.survey.specs.declared.types.Tree.{Tree}
+use Rattle.forest.specs.Forest.{Forest, nil}
 use Rattle.survey.specs.declared.types.First.TheVariants.{Nothing}
-use Rattle.survey.specs.KeptTrees.{tree_at}
+use Rattle.survey.specs.Stocks.{root_at, Stocked}
 use Rattle.measure.proofs.Costs.{own_order}
 use Rattle.survey.proofs.Finishes.{surveyed}
-use Rattle.survey.proofs.Relaxes.{all_good, floor_of}
-use Rattle.survey.proofs.Swaps.{swap_kept, swap_closed, swap_trees}
-use Rattle.survey.proofs.KeptTrees.{trees_room, start_trees}
-use Rattle.survey.proofs.Loops.{kept_cap, start_kept, start_closed, start_floored, closed_more, floored_more}
+use Rattle.survey.proofs.Relaxes.{all_good}
+use Rattle.survey.proofs.Swaps.{swap_kept, swap_closed, swap_stocked}
+use Rattle.survey.proofs.Stocking.{stocked_room, start_stocked}
+use Rattle.survey.proofs.Loops.{kept_cap, grown_cap, start_kept, start_closed, closed_more}
 use Rattle.survey.proofs.survey_with.Goals as goal
 use Rattle.survey.specs.Survey.{blank, entry, setting}
-use Rattle.survey.specs.Steps.{Floored, Kept, Sound}
+use Rattle.survey.specs.Steps.{Kept, Sound}
 
 pub returns-then-list-eq0 : goal.returns-then-list-eq0
 returns-then-list-eq0 g c = record { number = refl; place = refl; many = record { forest = λ _. nil; sort = λ _. c.of-nil-standings.result; counted = λ i h. (g.met.S.Sorting.sorted c.args.sorting.now).nil_counts; sorted = λ i h. c.of-nil-standings.ensures; differ = λ i j hi hj _. omega arith } }
@@ -33,29 +35,25 @@ loop-done-init g c =
     let p = ap (λ (z : Sort C). z.cost) e ∙ c.of-nil-cost.ensures in
     let f = ap (λ (z : Sort C). z.first) e in
     let l = ap (λ (z : Sort C). z.length) e in
-    let room : 0 < length (set xs 0 x) = simp length-set (omega arith) in
-    let es = entry Γ (set xs 0 x) in
-    let cap = length (set xs 0 x) in
-    (start_kept so es cap room f s p l, start_closed so es cap room f s p l, start_trees _ _ _ _, subst (Floored Γ es 0 1) (sym c.of-nil-cost.ensures) (start_floored so es cap room f s p l))
+    (start_kept so (entry Γ (set xs 0 x)) (length (set xs 0 x)) (simp length-set (omega arith)) f s p l, start_closed so (entry Γ (set xs 0 x)) (length (set xs 0 x)) (simp length-set (omega arith)) f s p l, start_stocked _ _ _ _)
 
-pub settle-floor-requires : goal.settle-floor-requires
-settle-floor-requires g c =
+pub settle-requires : goal.settle-requires
+settle-requires g c =
     let Γ = setting (g.M.Measure.model c.args.measure.now) (g.S.Sorting.model c.args.sorting.now) in
     let k : Kept Γ (entry Γ c.loop-done.list) c.loop-done.done c.loop-done.len (length c.loop-done.list) = kept_cap (omega arith) c.loop-done.invariant.0 in
     record {
       bounds = (omega arith, k.fits);
       good = all_good Γ c.loop-done.list c.loop-done.done c.loop-done.len k;
-      floor = (c.loop-done.invariant.3.good, floor_of Γ c.loop-done.list c.loop-done.done c.loop-done.len _ k.fits c.loop-done.invariant.3);
     }
 
 pub relax-all-requires : goal.relax-all-requires
 relax-all-requires g c =
     let Γ = setting (g.M.Measure.model c.args.measure.now) (g.S.Sorting.model c.args.sorting.now) in
     let so = c.loop-done.invariant.0.sound in
-    let t = c.settle-floor.ensures.settled (blank Γ) in
+    let t = c.settle.ensures (blank Γ) in
     record {
-      kept = kept_cap (omega arith) (swap_kept so (entry Γ c.loop-done.list) (entry Γ c.settle-floor.new.list) c.loop-done.done c.loop-done.len _ t.place c.loop-done.invariant.0 t.low t.high t.least t.to t.back t.there);
-      table = trees_room (omega arith) (swap_trees so (entry Γ c.loop-done.list) (entry Γ c.settle-floor.new.list) c.loop-done.done c.loop-done.len _ t.place c.loop-done.invariant.0 t.low t.high t.least t.to t.back t.there (tree_at c.loop-done.trees) c.loop-done.kept c.loop-done.whole _ c.loop-done.invariant.2);
+      kept = kept_cap (omega arith) (swap_kept so (entry Γ c.loop-done.list) (entry Γ c.settle.new.list) c.loop-done.done c.loop-done.len _ t.place c.loop-done.invariant.0 t.low t.high t.least t.to t.back t.there);
+      stocked = stocked_room (omega arith) (swap_stocked so (entry Γ c.loop-done.list) (entry Γ c.settle.new.list) c.loop-done.done c.loop-done.len _ t.place c.loop-done.invariant.0 t.low t.high t.least t.to t.back t.there (root_at c.loop-done.trees) c.loop-done.kept c.loop-done.whole _ c.loop-done.invariant.2);
     }
 
 pub overflow-add-done : goal.overflow-add-done
@@ -65,10 +63,10 @@ pub loop-done-preserved : goal.loop-done-preserved
 loop-done-preserved g c =
     let Γ = setting (g.M.Measure.model c.args.measure.now) (g.S.Sorting.model c.args.sorting.now) in
     let so = c.loop-done.invariant.0.sound in
-    let t = c.settle-floor.ensures.settled (blank Γ) in
+    let t = c.settle.ensures (blank Γ) in
     let z = c.in-ok-step.ensures in
-    let closed = swap_closed so (entry Γ c.loop-done.list) (entry Γ c.settle-floor.new.list) c.loop-done.done c.loop-done.len _ t.place c.loop-done.invariant.0 t.low t.high t.least t.to t.back t.there c.loop-done.invariant.1 in
-    (kept_cap (omega arith) z.0.kept, closed_more so (entry Γ c.settle-floor.new.list) (entry Γ c.relax-all.new.list) c.loop-done.done c.loop-done.len c.in-ok-step.step.len _ closed z.0 z.1 z.2, trees_room (omega arith) z.3, subst (Floored Γ (entry Γ c.relax-all.new.list) (c.loop-done.done + 1) c.in-ok-step.step.len) (sym (c.settle-floor.ensures.cost (blank Γ))) (floored_more so (entry Γ c.settle-floor.new.list) (entry Γ c.relax-all.new.list) c.loop-done.done c.loop-done.len c.in-ok-step.step.len _ z.0))
+    let closed = swap_closed so (entry Γ c.loop-done.list) (entry Γ c.settle.new.list) c.loop-done.done c.loop-done.len _ t.place c.loop-done.invariant.0 t.low t.high t.least t.to t.back t.there c.loop-done.invariant.1 in
+    (kept_cap (omega arith) z.0.kept, closed_more so (entry Γ c.settle.new.list) (entry Γ c.relax-all.new.list) c.loop-done.done c.loop-done.len c.in-ok-step.step.len _ closed z.0 z.1 z.2, stocked_room (omega arith) z.3)
 
 pub returns : goal.returns
 returns g c =

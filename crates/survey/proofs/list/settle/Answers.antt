@@ -1,17 +1,5 @@
-use Rattle.std.proofs.Common.{◌<◌, length, sym, ap, ◌∙◌, arith, rules}
-use Rattle.std.proofs.lemmas.List.{get_or_default}
-use Rattle.survey.specs.declared.types.Sort.{Sort}
+use Rattle.std.proofs.Common.{◌<◌, length, arith, rules}
 use Rattle.survey.proofs.list.settle.Goals as goal
-
-pub least-place-requires : goal.least-place-requires
-least-place-requires g c =
-    let good = c.requires.good in
-    let ranked = g.met.M.Measure.ranked c.args.measure.now in
-    record {
-      bounds = (c.requires.bounds.0, c.requires.bounds.1);
-      ranked = λ k d h. ranked _ (good k d h);
-      floor = (ranked _ c.requires.floor.0, λ k d lo hi. c.tied.ensures.down _ _ c.requires.floor.0 (good k d hi) (c.requires.floor.1 k d lo hi));
-    }
 
 pub offset-bounds-list-place : goal.offset-bounds-list-place
 offset-bounds-list-place g c = let h : c.least-place.result < length c.args.list.now = omega (arith, c.least-place.ensures.high, c.requires.bounds.1) in search rules
@@ -20,21 +8,15 @@ pub offset-bounds-list-done : goal.offset-bounds-list-done
 offset-bounds-list-done g c = let h : c.args.done < length c.args.list.now = omega (arith, c.requires.bounds.0, c.requires.bounds.1) in search rules
 
 pub returns : goal.returns
-returns g c =
+returns g c d =
     record {
-      settled = λ d.
-          record {
-            place = c.least-place.result;
-            low = c.least-place.ensures.low;
-            high = c.least-place.ensures.high;
-            least = λ k lo hi.
-                let low = c.least-place.ensures.high in
-                c.tied.ensures.up _ _ (c.requires.good c.least-place.result d low) (c.requires.good k d hi) (c.least-place.ensures.least k d lo hi);
-            to = c.swap.ensures.by_index.0 d;
-            back = c.swap.ensures.by_index.1 d;
-            there = λ j p q. c.swap.ensures.by_index.2 j d p q;
-          };
-      cost = λ d.
-          let here : c.least-place.result < length c.args.list.now = omega (arith, c.least-place.ensures.high, c.requires.bounds.1) in
-          ap (λ (x : Sort g.row.M-Cost.Denot). x.cost) (c.index-list-place.is ∙ get_or_default _ _ _ d here ∙ sym (c.swap.ensures.by_index.0 d));
+      place = c.least-place.result;
+      low = c.least-place.ensures.low;
+      high = c.least-place.ensures.high;
+      least = λ k lo hi.
+          let low = c.least-place.ensures.high in
+          c.tied.ensures.up _ _ (c.requires.good c.least-place.result d low) (c.requires.good k d hi) (c.least-place.ensures.least k d lo hi);
+      to = c.swap.ensures.by_index.0 d;
+      back = c.swap.ensures.by_index.1 d;
+      there = λ j p q. c.swap.ensures.by_index.2 j d p q;
     }

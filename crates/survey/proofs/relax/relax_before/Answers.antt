@@ -1,10 +1,16 @@
-use Rattle.std.proofs.Common.{◌+◌, length, refl, inr, arith}
-use Rattle.survey.specs.KeptTrees.{tree_at}
+use Rattle.std.proofs.Common.{◌≡◌, ℕ, ◌+◌, ◌<◌, ◌≤◌, Bool, true, false, ◌≢◌, ◌⊎◌, length, get_or, set, sym, refl, ap, ◌∙◌, subst, inl, inr, arith, length-set, rules}
+use Rattle.survey.specs.declared.types.Standings.{Standings}
+use Rattle.survey.specs.declared.types.Sort.{Sort}
+use Rattle.survey.specs.declared.types.Tree.{Tree}
+use Rattle.survey.specs.Stocks.{root_at, Rooted, Joined, Crowned, Trees, Alike, Met, Stepped, Stocked}
 use Rattle.survey.proofs.Basics.{grown_none}
 use Rattle.survey.proofs.Loops.{kept_cap, grown_cap}
-use Rattle.survey.proofs.KeptTrees.{over_move, joined_more}
+use Rattle.survey.specs.Steps.{node_cost, TreeBefore, NodeOver}
+use Rattle.survey.specs.Sorting.{TextSort, NodeLeaves, NodeSort}
+use Rattle.survey.proofs.Stocking.{rooted_move, joined_more}
 use Rattle.survey.proofs.relax.relax_before.Goals as goal
 use Rattle.survey.specs.Survey.{entry, setting}
+use Rattle.survey.specs.Steps.{Sound}
 
 pub loop-t-init : goal.loop-t-init
 loop-t-init g c = (grown_none _ _ _ _ c.requires.kept, λ i h. absurd (omega arith))
@@ -15,7 +21,7 @@ relax-node-requires g c =
     let gr = c.loop-t.invariant.0 in
     record {
       kept = kept_cap (omega arith) gr.kept;
-      over = over_move (entry Γ c.args.list.now) (entry Γ c.loop-t.list) (c.args.last + 1) (c.args.last + 1) (tree_at c.args.trees.now c.loop-t.t) (omega arith) gr.same (c.requires.over c.loop-t.t (omega arith));
+      rooted = rooted_move (entry Γ c.args.list.now) (entry Γ c.loop-t.list) (c.args.last + 1) (c.args.last + 1) (root_at c.args.trees.now c.loop-t.t) (omega arith) gr.same (c.requires.rooted c.loop-t.t (omega arith));
       bounds = omega arith;
       new = inr refl;
     }
@@ -26,8 +32,8 @@ loop-t-preserved g c =
     let so = c.requires.kept.sound in
     let z = c.in-ok-found.ensures in
     joined_more so (entry Γ c.args.list.now) (entry Γ c.loop-t.list) (entry Γ c.relax-node.new.list)
-    c.args.last c.args.len c.loop-t.found c.in-ok-found.found (length c.args.list.now) c.loop-t.t (tree_at c.args.trees.now) (λ _. c.args.last)
-    (λ k lt. (c.requires.over k (omega arith)).content) (λ k lt. omega arith)
+    c.args.last c.args.len c.loop-t.found c.in-ok-found.found (length c.args.list.now) c.loop-t.t (root_at c.args.trees.now) (λ _. c.args.last)
+    (λ k lt. (c.requires.rooted k (omega arith)).content) (λ k lt. omega arith)
     c.loop-t.invariant.0 c.loop-t.invariant.1 (grown_cap (omega arith) z.0) z.1
 
 pub returns : goal.returns

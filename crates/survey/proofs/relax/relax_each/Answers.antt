@@ -1,13 +1,17 @@
-use Rattle.std.proofs.Common.{ℕ, ◌+◌, ◌<◌, length, sym, refl, ◌∙◌, subst, inr, arith, rules}
+use Rattle.std.proofs.Common.{◌≡◌, ℕ, ◌+◌, ◌<◌, ◌≤◌, Bool, true, false, ◌≢◌, ◌⊎◌, length, get_or, set, sym, refl, ap, ◌∙◌, subst, inl, inr, arith, length-set, rules}
+use Rattle.survey.specs.declared.types.Standings.{Standings}
 use Rattle.survey.specs.declared.types.Sort.{Sort}
 use Rattle.survey.specs.declared.types.Tree.{Tree}
+use Rattle.survey.specs.Stocks.{root_at, Rooted, Joined, Crowned, Trees, Alike, Met, Stepped, Stocked}
 use Rattle.survey.proofs.Basics.{grown_none, grown_trans}
 use Rattle.survey.proofs.Loops.{kept_cap, grown_cap}
 use Rattle.survey.proofs.Relaxes.{read}
-use Rattle.survey.specs.Sorting.{NodeLeaves}
-use Rattle.survey.proofs.KeptTrees.{nodes_by, nodes_more}
+use Rattle.survey.specs.Steps.{node_cost, TreeBefore, NodeOver}
+use Rattle.survey.specs.Sorting.{TextSort, NodeLeaves, NodeSort}
+use Rattle.survey.proofs.Stocking.{crowned_by, crowned_more}
 use Rattle.survey.proofs.relax.relax_each.Goals as goal
 use Rattle.survey.specs.Survey.{entry, setting}
+use Rattle.survey.specs.Steps.{Sound}
 
 pub offset-bounds-list-content : goal.offset-bounds-list-content
 offset-bounds-list-content g c = let h : c.args.content < length c.args.list.now = omega (arith, c.requires.kept.within, c.requires.kept.fits) in search rules
@@ -27,7 +31,7 @@ relax-node-requires g c =
     let rd = read Γ c.args.list.now c.args.content c.index-list-content.result (omega (arith, c.requires.kept.within, c.requires.kept.fits)) c.index-list-content.is in
     record {
       kept = kept_cap (omega arith) gr.kept;
-      over = record {
+      rooted = record {
         label = rw c.label-label.ensures (c.requires.kept.sound.sorted.labels c.loop-i.i (omega (arith, c.count-i-end.ensures)));
         content = omega arith;
         leaves = subst (λ (z : Sort C). NodeLeaves Γ.sorts c.label-label.result z.standings c.leaves-leaves.result) (rd ∙ sym (gr.same c.args.content (omega arith))) c.leaves-leaves.ensures;
@@ -57,9 +61,9 @@ loop-i-preserved g c =
     let g₂ = grown_cap {cap' = cap} (omega arith) z.0 in (
       grown_trans e e₁ e₂ (c.args.last + 1) c.args.len c.loop-i.found c.in-ok-found.found cap gr g₂,
       λ j lt.
-          nodes_more so e e₁ e₂ c.args.last c.args.len c.loop-i.found c.in-ok-found.found cap i (λ _. Unit {0}) (λ b. b) (λ _. k)
+          crowned_more so e e₁ e₂ c.args.last c.args.len c.loop-i.found c.in-ok-found.found cap i (λ _. Unit {0}) (λ b. b) (λ _. k)
           (λ b h. omega arith) gr (λ b h v. c.loop-i.invariant.1 b h) g₂
-          (λ v. nodes_by so e₁ e₂ c.args.last c.loop-i.found c.in-ok-found.found cap g₂ t i k c.args.last (omega arith) (omega arith) (omega arith) p z.1) j lt tt,
+          (λ v. crowned_by so e₁ e₂ c.args.last c.loop-i.found c.in-ok-found.found cap g₂ t i k c.args.last (omega arith) (omega arith) (omega arith) p z.1) j lt tt,
     )
 
 pub returns : goal.returns

@@ -1,5 +1,5 @@
-use Rattle.std.proofs.Common.{ℕ, ◌+◌, ◌<◌, length}
-use Rattle.survey.specs.KeptTrees.{NodesCovered}
+use Rattle.std.proofs.Common.{◌≡◌, ℕ, ◌+◌, ◌-◌, ◌<◌, ◌≤◌, false, length}
+use Rattle.survey.specs.Stocks.{root_at, Rooted, Joined, Crowned, Trees, Alike, Met, Stepped, Stocked}
 use Rattle.survey.proofs.relax.relax_each.Given as goal
 use Rattle.survey.specs.Survey.{entry, setting}
 use Rattle.survey.specs.Steps.{Grown}
@@ -8,4 +8,4 @@ abbrev pub invariant-loop-i : goal.invariant-loop-i
 invariant-loop-i g l =
     let Γ = setting (g.M.Measure.model l.measure) (g.S.Sorting.model l.sorting) in
     Grown Γ (entry Γ l.initial.list) (entry Γ l.list) (l.last + 1) l.initial.found l.found (length l.initial.list)
-    × ((i : ℕ) → i < l.i → NodesCovered Γ (entry Γ l.initial.list) (entry Γ l.list) l.found i l.content l.last)
+    × ((i : ℕ) → i < l.i → Crowned Γ (entry Γ l.initial.list) (entry Γ l.list) l.found i l.content l.last)

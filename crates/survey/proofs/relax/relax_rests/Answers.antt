@@ -1,9 +1,16 @@
-use Rattle.std.proofs.Common.{◌+◌, ◌<◌, ◌≤◌, length, arith}
+use Rattle.std.proofs.Common.{◌≡◌, ℕ, ◌+◌, ◌<◌, ◌≤◌, Bool, true, false, ◌≢◌, ◌⊎◌, length, get_or, set, sym, refl, ap, ◌∙◌, subst, inl, inr, arith, length-set, rules}
+use Rattle.survey.specs.declared.types.Standings.{Standings}
+use Rattle.survey.specs.declared.types.Sort.{Sort}
+use Rattle.survey.specs.declared.types.Tree.{Tree}
+use Rattle.survey.specs.Stocks.{root_at, Rooted, Joined, Crowned, Trees, Alike, Met, Stepped, Stocked}
 use Rattle.survey.proofs.Basics.{grown_none, grown_trans}
 use Rattle.survey.proofs.Loops.{kept_cap, grown_cap}
-use Rattle.survey.proofs.KeptTrees.{nodes_more}
+use Rattle.survey.specs.Steps.{node_cost, TreeBefore, NodeOver}
+use Rattle.survey.specs.Sorting.{TextSort, NodeLeaves, NodeSort}
+use Rattle.survey.proofs.Stocking.{crowned_more}
 use Rattle.survey.proofs.relax.relax_rests.Goals as goal
 use Rattle.survey.specs.Survey.{entry, setting}
+use Rattle.survey.specs.Steps.{Sound}
 
 pub loop-c-init : goal.loop-c-init
 loop-c-init g c = (grown_none _ _ _ _ c.requires.kept, λ k i h u. let lo = u.0 in absurd (omega arith))
@@ -24,7 +31,7 @@ loop-c-preserved g c =
     let g₂ = grown_cap {cap' = length c.args.list.now} (omega arith) z.0 in (
       grown_trans e e₁ e₂ (c.args.last + 1) c.args.len c.loop-c.found c.in-ok-found.found (length c.args.list.now) gr g₂,
       λ a i lt u.
-          nodes_more so e e₁ e₂ c.args.last c.args.len c.loop-c.found c.in-ok-found.found (length c.args.list.now) k (λ b. (c.args.whole ≤ b) × (i < Γ.sorts.count)) (λ _. i) (λ b. b)
+          crowned_more so e e₁ e₂ c.args.last c.args.len c.loop-c.found c.in-ok-found.found (length c.args.list.now) k (λ b. (c.args.whole ≤ b) × (i < Γ.sorts.count)) (λ _. i) (λ b. b)
           (λ b h. omega arith) gr (λ b h v. c.loop-c.invariant.1 b i h v) g₂ (λ v. z.1 i v.1) a lt u,
     )
 

@@ -1,5 +1,5 @@
-use Rattle.std.proofs.Common.{ℕ, ◌+◌, ◌<◌, ◌≤◌, length}
-use Rattle.survey.specs.KeptTrees.{NodesCovered}
+use Rattle.std.proofs.Common.{◌≡◌, ℕ, ◌+◌, ◌-◌, ◌<◌, ◌≤◌, false, length}
+use Rattle.survey.specs.Stocks.{root_at, Rooted, Joined, Crowned, Trees, Alike, Met, Stepped, Stocked}
 use Rattle.survey.proofs.relax.relax_rests.Given as goal
 use Rattle.survey.specs.Survey.{entry, setting}
 use Rattle.survey.specs.Steps.{Grown}
@@ -8,4 +8,4 @@ abbrev pub invariant-loop-c : goal.invariant-loop-c
 invariant-loop-c g l =
     let Γ = setting (g.M.Measure.model l.measure) (g.S.Sorting.model l.sorting) in
     Grown Γ (entry Γ l.initial.list) (entry Γ l.list) (l.last + 1) l.initial.found l.found (length l.initial.list)
-    × ((c i : ℕ) → c < l.c → (l.whole ≤ c) × (i < Γ.sorts.count) → NodesCovered Γ (entry Γ l.initial.list) (entry Γ l.list) l.found i c l.last)
+    × ((c i : ℕ) → c < l.c → (l.whole ≤ c) × (i < Γ.sorts.count) → Crowned Γ (entry Γ l.initial.list) (entry Γ l.list) l.found i c l.last)

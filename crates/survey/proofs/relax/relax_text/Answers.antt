@@ -1,4 +1,4 @@
-use Rattle.std.proofs.Common.{◌+◌, ◌<◌, ◌≤◌, length, Some, None, sym, refl, ap, ◌∙◌, subst, arith, rules}
+use Rattle.std.proofs.Common.{◌≡◌, ℕ, ◌+◌, ◌<◌, ◌≤◌, length, Some, None, sym, refl, ap, ◌∙◌, subst, arith, rules}
 use Rattle.measure.specs.Lengths.{ceiling}
 use Rattle.survey.specs.declared.types.Sort.{Sort}
 use Rattle.survey.specs.declared.types.First.TheVariants.{Text}
@@ -6,7 +6,7 @@ use Rattle.survey.specs.Survey.{setting, entry, blank}
 use Rattle.survey.specs.Steps.{text_cost, text_length}
 use Rattle.survey.proofs.Basics.{good_at}
 use Rattle.survey.proofs.Relaxes.{all_good, read, sized, relaxed_text, texted_none}
-use Rattle.survey.specs.Sorting.{TextSort}
+use Rattle.survey.specs.Sorting.{TextSort, NodeSort}
 use Rattle.survey.proofs.relax.relax_text.Goals as goal
 
 pub offset-bounds-list-last : goal.offset-bounds-list-last

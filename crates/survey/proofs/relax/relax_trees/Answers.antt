@@ -1,13 +1,17 @@
-use Rattle.std.proofs.Common.{ℕ, ◌<◌, length, sym, refl, ◌∙◌, subst, arith, rules}
+use Rattle.std.proofs.Common.{◌≡◌, ℕ, ◌+◌, ◌<◌, ◌≤◌, Bool, true, false, ◌≢◌, ◌⊎◌, length, get_or, set, sym, refl, ap, ◌∙◌, subst, inl, inr, arith, length-set, rules}
+use Rattle.survey.specs.declared.types.Standings.{Standings}
 use Rattle.survey.specs.declared.types.Sort.{Sort}
 use Rattle.survey.specs.declared.types.Tree.{Tree}
+use Rattle.survey.specs.Stocks.{root_at, Rooted, Joined, Crowned, Trees, Alike, Met, Stepped, Stocked}
 use Rattle.survey.proofs.Basics.{grown_none}
-use Rattle.survey.proofs.Loops.{kept_cap}
+use Rattle.survey.proofs.Loops.{kept_cap, grown_cap}
 use Rattle.survey.proofs.Relaxes.{read}
-use Rattle.survey.specs.Sorting.{NodeLeaves}
-use Rattle.survey.proofs.KeptTrees.{fresh_more}
+use Rattle.survey.specs.Steps.{node_cost, TreeBefore, NodeOver}
+use Rattle.survey.specs.Sorting.{TextSort, NodeLeaves, NodeSort}
+use Rattle.survey.proofs.Stocking.{fresh_more}
 use Rattle.survey.proofs.relax.relax_trees.Goals as goal
 use Rattle.survey.specs.Survey.{entry, setting}
+use Rattle.survey.specs.Steps.{Sound}
 
 pub offset-bounds-list-last : goal.offset-bounds-list-last
 offset-bounds-list-last g c = let h : c.args.last < length c.args.list.now = omega (arith, c.requires.kept.within, c.requires.kept.fits) in search rules
@@ -29,7 +33,7 @@ relax-new-requires g c =
       kept = kept_cap (omega arith) s.grown.kept;
       bounds = omega (arith, s.room);
       trees = s.trees;
-      over = record {
+      rooted = record {
         label = rw c.label-label.ensures (c.requires.kept.sound.sorted.labels c.loop-i.i (omega (arith, c.count-i-end.ensures)));
         content = omega arith;
         leaves = subst (λ (z : Sort C). NodeLeaves Γ.sorts c.label-label.result z.standings c.leaves-leaves.result) (rd ∙ sym (s.grown.same c.args.last (omega arith))) c.leaves-leaves.ensures;
