@@ -1,14 +1,11 @@
 -- What a closed list says of every forest.
-use Rattle.std.proofs.Common.{◌≡◌, ℕ, zero, suc, ◌+◌, ◌<◌, ◌≤◌, ◌≢◌, ◌⊎◌, List, [], length, Some, None, sym, refl, ap, ◌∙◌, subst, inl, inr, arith}
-use native.Mathlib.Decide.{dec_lt}
+use Rattle.std.proofs.Common.{◌≡◌, ℕ, zero, suc, ◌<◌, ◌≤◌, ◌⊎◌, [], length, Some, sym, refl, ap, ◌∙◌, inl, inr, arith}
 use Rattle.forest.specs.Forest.{Forest, nil, text, node, Label}
-use Rattle.measure.specs.Measure.{Rules, cost_of}
-use Rattle.measure.specs.Measure.{Lawful}
+use Rattle.measure.specs.Measure.{cost_of}
 use Rattle.measure.proofs.Costs.{cost_good}
 use Rattle.survey.specs.declared.types.Standings.{Standings}
 use Rattle.survey.specs.declared.types.Sort.{Sort}
-use Rattle.forest.specs.declared.fault.Fault.{Fault}
-use Rattle.survey.proofs.Basics.{same_or_not, below_or_not, below_or_at, le_self}
+use Rattle.survey.proofs.Basics.{below_or_not}
 use Rattle.survey.specs.Sorting.{TextSort}
 use Rattle.survey.specs.Survey.{Covers, Rebuilt, Setting, Stands, Surveyed, TooMany, built_nil, built_node, built_text}
 use Rattle.measure.specs.Lengths.{length_of}

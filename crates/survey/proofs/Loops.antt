@@ -1,14 +1,13 @@
 -- The steps of the loops.
-use Rattle.std.proofs.Common.{◌≡◌, ℕ, ◌+◌, ◌<◌, ◌≤◌, ◌≢◌, ◌⊎◌, List, sym, refl, ap, ◌∙◌, subst, inl, inr, arith}
-use Rattle.survey.specs.declared.types.Standings.{Standings}
+use Rattle.std.proofs.Common.{◌≡◌, ℕ, ◌+◌, ◌<◌, ◌≤◌, ◌⊎◌, sym, refl, ap, subst, inl, inr, arith}
 use Rattle.survey.specs.declared.types.Sort.{Sort}
 use Rattle.forest.specs.declared.fault.Fault.{Fault}
 use Rattle.survey.specs.declared.types.First.TheVariants.{Nothing}
-use Rattle.survey.proofs.Basics.{below_or_at, covering_on, good_at, grown_trans, le_self}
-use Rattle.survey.specs.Survey.{Covers, Refused, Setting, blank, entry}
+use Rattle.survey.proofs.Basics.{below_or_at, covering_on, good_at, le_self}
+use Rattle.survey.specs.Survey.{Covers, Refused, Setting}
 use Rattle.forest.specs.Forest.{Forest, nil}
 use Rattle.survey.specs.declared.types.Leaves.{Leaves}
-use Rattle.survey.specs.Steps.{Closed, Covered, Formed, Grown, Kept, NodeCovered, NodesAround, Sound, TextCovered, TreeCovered, as_nil, node_cost, text_cost}
+use Rattle.survey.specs.Steps.{Closed, Formed, Grown, Kept, NodeCovered, NodesAround, Sound, TextCovered, TreeCovered, as_nil, node_cost}
 
 -- another count of the same room
 pub kept_cap : {C : Type 0} {Γ : Setting C} {e : ℕ → Sort C} {done len cap cap' : ℕ} → cap ≡ cap' → Kept Γ e done len cap → Kept Γ e done len cap'

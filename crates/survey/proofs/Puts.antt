@@ -1,6 +1,5 @@
 -- One entry put into the list: in place of a dearer one of its sort, or as a new one.
-use Rattle.std.proofs.Common.{◌≡◌, ℕ, ◌+◌, ◌<◌, ◌≤◌, ◌≢◌, ◌⊎◌, List, length, get_or, set, sym, refl, ap, ◌∙◌, subst, inl, inr, arith, get_or-set_other, get_or-set_same}
-use Rattle.survey.specs.declared.types.Standings.{Standings}
+use Rattle.std.proofs.Common.{◌≡◌, ℕ, ◌+◌, ◌<◌, ◌≤◌, ◌≢◌, ◌⊎◌, List, length, set, sym, refl, ap, ◌∙◌, inl, inr, arith, get_or-set_other, get_or-set_same}
 use Rattle.survey.specs.declared.types.Sort.{Sort}
 use Rattle.survey.proofs.Basics.{same_or_not, below_or_not, le_self, le_flip, covered_lower, formed_at, good_at, le_at, standings_at, grown_none}
 use Rattle.survey.specs.Survey.{Setting, blank, entry}

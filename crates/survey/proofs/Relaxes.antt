@@ -1,5 +1,5 @@
 -- An offer, as a step of the survey.
-use Rattle.std.proofs.Common.{◌≡◌, ℕ, ◌+◌, ◌<◌, ◌≤◌, ◌≢◌, ◌⊎◌, List, length, get_or, set, Some, None, Ok, Err, Result, sym, refl, ap, ◌∙◌, subst, inl, inr, arith}
+use Rattle.std.proofs.Common.{◌≡◌, ℕ, ◌+◌, ◌<◌, ◌≤◌, ◌⊎◌, List, length, get_or, Some, None, Ok, Err, Result, sym, refl, ◌∙◌, subst, inl, inr, arith}
 use Rattle.std.proofs.lemmas.List.{get_or_default}
 use Rattle.survey.specs.declared.types.Standings.{Standings}
 use Rattle.survey.specs.declared.types.Sort.{Sort}
@@ -7,14 +7,14 @@ use Rattle.forest.specs.declared.fault.Fault.{Fault}
 use Rattle.survey.specs.declared.types.First.TheVariants.{Text, Node}
 use Rattle.survey.specs.declared.types.Tree.{Tree}
 use Rattle.survey.specs.Stocks.{Rooted, Joins}
-use Rattle.survey.proofs.Basics.{below_or_not, covered_at, covers_by, grown_none, le_self}
+use Rattle.survey.proofs.Basics.{below_or_not, covered_at, covers_by, grown_none}
 use Rattle.survey.proofs.Puts.{taken}
 use Rattle.survey.proofs.Finishes.{too_many}
 use Rattle.survey.specs.Survey.{Setting, blank, entry}
-use Rattle.forest.specs.Forest.{Forest, nil, text, node, Label}
+use Rattle.forest.specs.Forest.{nil, text, node, Label}
 use Rattle.measure.specs.Lengths.{ceiling}
 use Rattle.survey.specs.Sorting.{TextSort, NodeSort}
-use Rattle.survey.specs.Steps.{AllGood, Formed, Grown, Kept, NodeOf, Offer, Relaxed, Sound, TextCovered, Texted, TreeCovered, as_nil, as_node, as_text, node_cost, node_length, text_cost, text_length}
+use Rattle.survey.specs.Steps.{AllGood, Formed, Kept, NodeOf, Offer, Relaxed, Sound, TextCovered, Texted, TreeCovered, as_nil, as_node, as_text, node_cost, node_length, text_cost, text_length}
 
 -- what the list's `fine` says at any default
 pub all_good : {C : Type 0} (Γ : Setting C) (xs : List (Sort C)) (done len : ℕ) → Kept Γ (entry Γ xs) done len (length xs) → AllGood Γ.good xs len

@@ -1,13 +1,13 @@
 -- The kept trees over the steps of a survey.
-use Rattle.std.proofs.Common.{◌≡◌, ℕ, ◌+◌, ◌<◌, ◌≤◌, Bool, true, false, ◌≢◌, ◌⊎◌, List, length, get_or, set, sym, refl, ap, ◌∙◌, subst, inl, inr, arith, get_or-set_other, get_or-set_same}
+use Rattle.std.proofs.Common.{◌≡◌, ℕ, ◌+◌, ◌<◌, ◌≤◌, Bool, false, ◌≢◌, ◌⊎◌, List, length, set, sym, refl, ap, ◌∙◌, subst, inl, inr, arith, get_or-set_other, get_or-set_same}
 use Rattle.forest.specs.Forest.{Forest, nil, text, node}
 use Rattle.survey.specs.declared.types.Leaves.{Leaves}
 use Rattle.survey.specs.declared.types.Sort.{Sort}
 use Rattle.survey.specs.declared.types.Tree.{Tree}
 use Rattle.survey.specs.Sorting.{NodeLeaves}
 use Rattle.survey.specs.Survey.{Setting, entry}
-use Rattle.survey.specs.Steps.{Covering, Grown, Kept, NodeCovered, NodeOver, NodesAround, Sound, TextCovered, TreeCovered, node_cost}
-use Rattle.survey.specs.Stocks.{stub, root_at, Rooted, AllRooted, Joined, Crowned, Trees, Alike, Met, Stocked, Stepped}
+use Rattle.survey.specs.Steps.{Covering, Grown, Kept, NodeOver, NodesAround, Sound, TextCovered, TreeCovered, node_cost}
+use Rattle.survey.specs.Stocks.{stub, root_at, Rooted, Joined, Crowned, Trees, Alike, Met, Stocked, Stepped}
 use Rattle.survey.proofs.Basics.{below_or_not, below_or_at, covering_on, le_self, le_at, grown_trans, grown_none}
 use Rattle.survey.proofs.Loops.{grown_cap, good_old, node_good, covered_node, covered_tree}
 

@@ -8,7 +8,7 @@ use Rattle.survey.specs.declared.types.Standings.{Standings}
 use Rattle.survey.specs.declared.types.Leaves.{Leaves}
 use Rattle.survey.specs.declared.types.Sort.{Sort}
 use Rattle.survey.specs.declared.types.First.TheVariants.{Nothing, Text, Node}
-use Rattle.survey.specs.Sorting.{Sorts, Like, TextSort, NodeLeaves, NodeSort}
+use Rattle.survey.specs.Sorting.{Sorts, Like, TextSort}
 use Rattle.survey.specs.Survey.{Setting, entry, Covers, Refused}
 
 -- the laws that the measure and the sorting give

@@ -1,5 +1,5 @@
 -- The trees that a survey keeps: one for each set of leaves. Whoever calls the survey needs none of it.
-use Rattle.std.specs.Prelude.{◌≡◌, ℕ, ◌+◌, ◌<◌, ◌≤◌, Bool, true, false, List, length, Ok, Err, Result, slice_index_or}
+use Rattle.std.specs.Prelude.{◌≡◌, ℕ, ◌+◌, ◌<◌, ◌≤◌, false, List, length, Ok, Err, Result, slice_index_or}
 use Rattle.forest.specs.declared.fault.Fault.{Fault}
 use Rattle.forest.specs.Forest.{Label}
 use Rattle.survey.specs.declared.types.Leaves.{Leaves}

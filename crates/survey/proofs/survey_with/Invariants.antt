@@ -1,4 +1,4 @@
-use Rattle.std.proofs.Common.{◌≡◌, ℕ, ◌+◌, ◌-◌, ◌<◌, ◌≤◌, false, length}
+use Rattle.std.proofs.Common.{◌-◌, length}
 use Rattle.survey.specs.Stocks.{root_at, Stocked}
 use Rattle.survey.proofs.survey_with.Given as goal
 use Rattle.survey.specs.Survey.{entry, setting}

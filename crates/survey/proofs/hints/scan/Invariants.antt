@@ -1,4 +1,4 @@
-use Rattle.std.proofs.Common.{ℕ, get_or}
+use Rattle.std.proofs.Common.{get_or}
 use Rattle.survey.specs.declared.types.Sort.{Sort}
 use Rattle.survey.proofs.hints.scan.Given as goal
 use Rattle.survey.specs.Steps.{Absent}

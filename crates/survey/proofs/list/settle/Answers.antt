@@ -1,11 +1,11 @@
 use Rattle.std.proofs.Common.{◌<◌, length, arith, rules}
 use Rattle.survey.proofs.list.settle.Goals as goal
 
-pub offset-bounds-list-place : goal.offset-bounds-list-place
-offset-bounds-list-place g c = let h : c.least-place.result < length c.args.list.now = omega (arith, c.least-place.ensures.high, c.requires.bounds.1) in search rules
+pub offset_bounds-list-place : goal.offset_bounds-list-place
+offset_bounds-list-place g c = let h : c.least-place.result < length c.args.list.now = omega (arith, c.least-place.ensures.high, c.requires.bounds.1) in search rules
 
-pub offset-bounds-list-done : goal.offset-bounds-list-done
-offset-bounds-list-done g c = let h : c.args.done < length c.args.list.now = omega (arith, c.requires.bounds.0, c.requires.bounds.1) in search rules
+pub offset_bounds-list-done : goal.offset_bounds-list-done
+offset_bounds-list-done g c = let h : c.args.done < length c.args.list.now = omega (arith, c.requires.bounds.0, c.requires.bounds.1) in search rules
 
 pub returns : goal.returns
 returns g c d =

@@ -1,16 +1,8 @@
-use Rattle.std.proofs.Common.{◌≡◌, ℕ, ◌+◌, ◌<◌, ◌≤◌, Bool, true, false, ◌≢◌, ◌⊎◌, length, get_or, set, sym, refl, ap, ◌∙◌, subst, inl, inr, arith, length-set, rules}
-use Rattle.survey.specs.declared.types.Standings.{Standings}
-use Rattle.survey.specs.declared.types.Sort.{Sort}
-use Rattle.survey.specs.declared.types.Tree.{Tree}
-use Rattle.survey.specs.Stocks.{root_at, Rooted, Joined, Crowned, Trees, Alike, Met, Stepped, Stocked}
+use Rattle.std.proofs.Common.{refl, arith}
 use Rattle.survey.proofs.Basics.{differ}
-use Rattle.survey.proofs.Loops.{kept_cap, grown_cap}
-use Rattle.survey.specs.Steps.{node_cost, TreeBefore, NodeOver}
-use Rattle.survey.specs.Sorting.{TextSort, NodeLeaves, NodeSort}
 use Rattle.survey.proofs.Stocking.{new_known, new_full, new_kept}
 use Rattle.survey.proofs.relax.relax_new.Goals as goal
 use Rattle.survey.specs.Survey.{setting}
-use Rattle.survey.specs.Steps.{Sound}
 
 pub returns-then-known : goal.returns-then-known
 returns-then-known g c =
@@ -24,8 +16,8 @@ pub returns-then-round-trees : goal.returns-then-round-trees
 returns-then-round-trees g c =
     let Γ = setting (g.M.Measure.model c.args.measure.now) (g.S.Sorting.model c.args.sorting.now) in
     let so = c.requires.kept.sound in
-    let z = c.in-ok-found.ensures in (
-      new_full so c.args.list.now c.relax-over.new.list c.args.last c.args.round.len c.in-ok-found.found c.args.trees.now c.args.round.kept z.0 c.requires.bounds c.requires.trees,
+    let z = c.in_ok-found.ensures in (
+      new_full so c.args.list.now c.relax_over.new.list c.args.last c.args.round.len c.in_ok-found.found c.args.trees.now c.args.round.kept z.0 c.requires.bounds c.requires.trees,
       z.1,
       λ h. absurd (differ refl h),
     )
@@ -34,6 +26,6 @@ pub returns : goal.returns
 returns g c =
     let Γ = setting (g.M.Measure.model c.args.measure.now) (g.S.Sorting.model c.args.sorting.now) in
     let so = c.requires.kept.sound in
-    let z = c.in-ok-found.ensures in
-    let y = new_kept so c.args.list.now c.relax-over.new.list c.args.last c.args.round.len c.in-ok-found.found c.args.trees.now c.args.round.kept c.args.tree z.0 (omega arith) c.requires.trees c.requires.rooted z.1 in
+    let z = c.in_ok-found.ensures in
+    let y = new_kept so c.args.list.now c.relax_over.new.list c.args.last c.args.round.len c.in_ok-found.found c.args.trees.now c.args.round.kept c.args.tree z.0 (omega arith) c.requires.trees c.requires.rooted z.1 in
     (y.0, z.1, λ h. (h, y.1))

@@ -1,22 +1,15 @@
-use Rattle.std.proofs.Common.{◌≡◌, ℕ, ◌+◌, ◌<◌, ◌≤◌, Bool, true, false, ◌≢◌, ◌⊎◌, length, get_or, set, sym, refl, ap, ◌∙◌, subst, inl, inr, arith, length-set, rules}
-use Rattle.survey.specs.declared.types.Standings.{Standings}
-use Rattle.survey.specs.declared.types.Sort.{Sort}
-use Rattle.survey.specs.declared.types.Tree.{Tree}
-use Rattle.survey.specs.Stocks.{root_at, Rooted, Joined, Crowned, Trees, Alike, Met, Stepped, Stocked}
+use Rattle.std.proofs.Common.{◌+◌, length, inl, arith}
 use Rattle.survey.proofs.Basics.{grown_none}
 use Rattle.survey.proofs.Loops.{kept_cap, grown_cap}
-use Rattle.survey.specs.Steps.{node_cost, TreeBefore, NodeOver}
-use Rattle.survey.specs.Sorting.{TextSort, NodeLeaves, NodeSort}
 use Rattle.survey.proofs.Stocking.{rooted_move, joined_more}
 use Rattle.survey.proofs.relax.relax_over.Goals as goal
 use Rattle.survey.specs.Survey.{entry, setting}
-use Rattle.survey.specs.Steps.{Sound}
 
 pub loop-k-init : goal.loop-k-init
 loop-k-init g c = (grown_none _ _ _ _ c.requires.kept, λ i h. absurd (omega arith))
 
-pub relax-node-requires : goal.relax-node-requires
-relax-node-requires g c =
+pub relax_node-requires : goal.relax_node-requires
+relax_node-requires g c =
     let Γ = setting (g.M.Measure.model c.args.measure.now) (g.S.Sorting.model c.args.sorting.now) in
     let gr = c.loop-k.invariant.0 in
     record {
@@ -30,9 +23,9 @@ pub loop-k-preserved : goal.loop-k-preserved
 loop-k-preserved g c =
     let Γ = setting (g.M.Measure.model c.args.measure.now) (g.S.Sorting.model c.args.sorting.now) in
     let so = c.requires.kept.sound in
-    let z = c.in-ok-found.ensures in
-    joined_more so (entry Γ c.args.list.now) (entry Γ c.loop-k.list) (entry Γ c.relax-node.new.list)
-    c.args.last c.args.len c.loop-k.found c.in-ok-found.found (length c.args.list.now) c.loop-k.k (λ _. c.args.tree) (λ k. k)
+    let z = c.in_ok-found.ensures in
+    joined_more so (entry Γ c.args.list.now) (entry Γ c.loop-k.list) (entry Γ c.relax_node.new.list)
+    c.args.last c.args.len c.loop-k.found c.in_ok-found.found (length c.args.list.now) c.loop-k.k (λ _. c.args.tree) (λ k. k)
     (λ k lt. c.requires.rooted.content) (λ k lt. omega arith)
     c.loop-k.invariant.0 c.loop-k.invariant.1 (grown_cap (omega arith) z.0) z.1
 

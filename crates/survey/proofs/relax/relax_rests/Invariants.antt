@@ -1,5 +1,5 @@
-use Rattle.std.proofs.Common.{◌≡◌, ℕ, ◌+◌, ◌-◌, ◌<◌, ◌≤◌, false, length}
-use Rattle.survey.specs.Stocks.{root_at, Rooted, Joined, Crowned, Trees, Alike, Met, Stepped, Stocked}
+use Rattle.std.proofs.Common.{ℕ, ◌+◌, ◌<◌, ◌≤◌, length}
+use Rattle.survey.specs.Stocks.{Crowned}
 use Rattle.survey.proofs.relax.relax_rests.Given as goal
 use Rattle.survey.specs.Survey.{entry, setting}
 use Rattle.survey.specs.Steps.{Grown}

@@ -1,4 +1,4 @@
-use Rattle.std.proofs.Common.{◌≡◌, ℕ, ◌+◌, ◌<◌, ◌≤◌, length, Some, None, sym, refl, ap, ◌∙◌, subst, arith, rules}
+use Rattle.std.proofs.Common.{◌+◌, ◌<◌, ◌≤◌, length, Some, None, sym, refl, ap, ◌∙◌, subst, arith, rules}
 use Rattle.measure.specs.Lengths.{ceiling}
 use Rattle.survey.specs.declared.types.Sort.{Sort}
 use Rattle.survey.specs.declared.types.First.TheVariants.{Text}
@@ -6,20 +6,20 @@ use Rattle.survey.specs.Survey.{setting, entry, blank}
 use Rattle.survey.specs.Steps.{text_cost, text_length}
 use Rattle.survey.proofs.Basics.{good_at}
 use Rattle.survey.proofs.Relaxes.{all_good, read, sized, relaxed_text, texted_none}
-use Rattle.survey.specs.Sorting.{TextSort, NodeSort}
+use Rattle.survey.specs.Sorting.{TextSort}
 use Rattle.survey.proofs.relax.relax_text.Goals as goal
 
-pub offset-bounds-list-last : goal.offset-bounds-list-last
-offset-bounds-list-last g c = let h : c.args.last < length c.args.list.now = omega (arith, c.requires.within, c.requires.fits) in search rules
+pub offset_bounds-list-last : goal.offset_bounds-list-last
+offset_bounds-list-last g c = let h : c.args.last < length c.args.list.now = omega (arith, c.requires.within, c.requires.fits) in search rules
 
-pub of-text-cost-requires : goal.of-text-cost-requires
-of-text-cost-requires g c =
+pub of_text-cost-requires : goal.of_text-cost-requires
+of_text-cost-requires g c =
     let Γ = setting (g.M.Measure.model c.args.measure.now) (g.S.Sorting.model c.args.sorting.now) in
     let rd = read Γ c.args.list.now c.args.last c.index-list-last.result (omega (arith, c.requires.within, c.requires.fits)) c.index-list-last.is in
     good_at Γ _ _ rd (c.requires.fine c.args.last (omega (arith, c.requires.within)))
 
-pub of-text-length-requires : goal.of-text-length-requires
-of-text-length-requires g c =
+pub of_text-length-requires : goal.of_text-length-requires
+of_text-length-requires g c =
     let C = g.row.M-Cost.Denot in
     let Γ = setting (g.M.Measure.model c.args.measure.now) (g.S.Sorting.model c.args.sorting.now) in
     let rd = read Γ c.args.list.now c.args.last c.index-list-last.result (omega (arith, c.requires.within, c.requires.fits)) c.index-list-last.is in
@@ -33,7 +33,7 @@ offer-requires g c =
     record {
       bounds = c.requires.fits;
       good = all_good Γ c.args.list.now (c.args.last + 1) c.args.len c.requires;
-      fine = subst Γ.good (sym c.of-text-cost.ensures) (c.requires.sound.laws.good_text 0 _ (good_at Γ _ _ rd (c.requires.fine c.args.last (omega (arith, c.requires.within)))));
+      fine = subst Γ.good (sym c.of_text-cost.ensures) (c.requires.sound.laws.good_text 0 _ (good_at Γ _ _ rd (c.requires.fine c.args.last (omega (arith, c.requires.within)))));
     }
 
 pub returns-in-None : goal.returns-in-None
@@ -48,9 +48,9 @@ returns-in-Some g c =
     let C = g.row.M-Cost.Denot in
     let Γ = setting (g.M.Measure.model c.args.measure.now) (g.S.Sorting.model c.args.sorting.now) in
     let rd = read Γ c.args.list.now c.args.last c.index-list-last.result (omega (arith, c.requires.within, c.requires.fits)) c.index-list-last.is in
-    let x : Sort C = record { standings = c.in-Some.standings; cost = c.of-text-cost.result; length = c.of-text-length.result; first = Text; content = 0; rest = c.args.last } in
+    let x : Sort C = record { standings = c.in-Some.standings; cost = c.of_text-cost.result; length = c.of_text-length.result; first = Text; content = 0; rest = c.args.last } in
     relaxed_text c.requires.sound c.args.list.now c.args.last c.args.len c.requires x refl refl
     (subst (λ (z : Sort C). TextSort Γ.sorts z.standings (Some c.in-Some.standings)) rd c.in-Some.ensures)
-    (c.of-text-cost.ensures ∙ ap (text_cost Γ) rd)
-    (c.of-text-length.ensures ∙ ap (λ (z : Sort C). text_length z.length) rd)
+    (c.of_text-cost.ensures ∙ ap (text_cost Γ) rd)
+    (c.of_text-length.ensures ∙ ap (λ (z : Sort C). text_length z.length) rd)
     c.offer.new.list c.offer.result (c.offer.ensures (blank Γ))

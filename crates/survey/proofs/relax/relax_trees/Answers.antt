@@ -1,20 +1,16 @@
-use Rattle.std.proofs.Common.{◌≡◌, ℕ, ◌+◌, ◌<◌, ◌≤◌, Bool, true, false, ◌≢◌, ◌⊎◌, length, get_or, set, sym, refl, ap, ◌∙◌, subst, inl, inr, arith, length-set, rules}
-use Rattle.survey.specs.declared.types.Standings.{Standings}
+use Rattle.std.proofs.Common.{ℕ, ◌<◌, length, sym, refl, ◌∙◌, subst, arith, rules}
 use Rattle.survey.specs.declared.types.Sort.{Sort}
 use Rattle.survey.specs.declared.types.Tree.{Tree}
-use Rattle.survey.specs.Stocks.{root_at, Rooted, Joined, Crowned, Trees, Alike, Met, Stepped, Stocked}
 use Rattle.survey.proofs.Basics.{grown_none}
-use Rattle.survey.proofs.Loops.{kept_cap, grown_cap}
+use Rattle.survey.proofs.Loops.{kept_cap}
 use Rattle.survey.proofs.Relaxes.{read}
-use Rattle.survey.specs.Steps.{node_cost, TreeBefore, NodeOver}
-use Rattle.survey.specs.Sorting.{TextSort, NodeLeaves, NodeSort}
+use Rattle.survey.specs.Sorting.{NodeLeaves}
 use Rattle.survey.proofs.Stocking.{fresh_more}
 use Rattle.survey.proofs.relax.relax_trees.Goals as goal
 use Rattle.survey.specs.Survey.{entry, setting}
-use Rattle.survey.specs.Steps.{Sound}
 
-pub offset-bounds-list-last : goal.offset-bounds-list-last
-offset-bounds-list-last g c = let h : c.args.last < length c.args.list.now = omega (arith, c.requires.kept.within, c.requires.kept.fits) in search rules
+pub offset_bounds-list-last : goal.offset_bounds-list-last
+offset_bounds-list-last g c = let h : c.args.last < length c.args.list.now = omega (arith, c.requires.kept.within, c.requires.kept.fits) in search rules
 
 pub loop-i-init : goal.loop-i-init
 loop-i-init g c =
@@ -23,8 +19,8 @@ loop-i-init g c =
 pub leaves-leaves-requires : goal.leaves-leaves-requires
 leaves-leaves-requires g c = rw c.label-label.ensures (c.requires.kept.sound.sorted.labels c.loop-i.i (omega (arith, c.count-i-end.ensures)))
 
-pub relax-new-requires : goal.relax-new-requires
-relax-new-requires g c =
+pub relax_new-requires : goal.relax_new-requires
+relax_new-requires g c =
     let C = g.row.M-Cost.Denot in
     let Γ = setting (g.M.Measure.model c.args.measure.now) (g.S.Sorting.model c.args.sorting.now) in
     let s = c.loop-i.invariant.0 in
@@ -46,7 +42,7 @@ loop-i-preserved g c =
     let C = g.row.M-Cost.Denot in
     let Γ = setting (g.M.Measure.model c.args.measure.now) (g.S.Sorting.model c.args.sorting.now) in
     let so = c.requires.kept.sound in
-    let z = c.in-ok-round.ensures in
+    let z = c.in_ok-round.ensures in
     let xs = c.args.list.now in
     let e = entry Γ xs in
     let rd = read Γ xs c.args.last c.index-list-last.result (omega (arith, c.requires.kept.within, c.requires.kept.fits)) c.index-list-last.is in
@@ -54,8 +50,8 @@ loop-i-preserved g c =
     let p : NodeLeaves Γ.sorts (Γ.sorts.label c.loop-i.i) (e c.args.last).standings t.leaves =
     subst (λ (l : ℕ). NodeLeaves Γ.sorts l (e c.args.last).standings t.leaves) c.label-label.ensures
     (subst (λ (z : Sort C). NodeLeaves Γ.sorts t.label z.standings t.leaves) rd c.leaves-leaves.ensures) in
-    fresh_more so xs c.loop-i.list c.relax-new.new.list c.args.last c.args.len c.loop-i.round.len c.in-ok-round.round.len c.loop-i.i
-    c.args.trees.now c.loop-i.trees c.relax-new.new.trees c.args.kept c.loop-i.round.kept c.in-ok-round.round.kept c.loop-i.round.full c.in-ok-round.round.full t
+    fresh_more so xs c.loop-i.list c.relax_new.new.list c.args.last c.args.len c.loop-i.round.len c.in_ok-round.round.len c.loop-i.i
+    c.args.trees.now c.loop-i.trees c.relax_new.new.trees c.args.kept c.loop-i.round.kept c.in_ok-round.round.kept c.loop-i.round.full c.in_ok-round.round.full t
     (omega arith) (omega arith) p refl c.loop-i.invariant.0 c.loop-i.invariant.1 c.loop-i.invariant.2 z.0 z.1 z.2
 
 pub returns : goal.returns

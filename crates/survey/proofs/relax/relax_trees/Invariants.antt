@@ -1,5 +1,5 @@
-use Rattle.std.proofs.Common.{◌≡◌, ℕ, ◌+◌, ◌-◌, ◌<◌, ◌≤◌, false, length}
-use Rattle.survey.specs.Stocks.{root_at, Rooted, Joined, Crowned, Trees, Alike, Met, Stepped, Stocked}
+use Rattle.std.proofs.Common.{◌≡◌, ℕ, ◌+◌, ◌<◌, false}
+use Rattle.survey.specs.Stocks.{root_at, Crowned, Met, Stepped}
 use Rattle.survey.proofs.relax.relax_trees.Given as goal
 use Rattle.survey.specs.Survey.{entry, setting}
 
