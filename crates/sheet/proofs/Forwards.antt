@@ -1,7 +1,7 @@
 use Rattle.std.proofs.Common.{ℕ}
 use Rattle.forest.specs.Forest.{Forest, nil, text, node}
 use Rattle.sheet.specs.Standing.{Tree, a_text, a_node, before}
-use Rattle.rows.specs.Sheet.{Sheet, at}
+use Rattle.rows.specs.Sheet.{Sheet}
 use Rattle.sheet.specs.Meaning.{Admits, of_empty, of_text, of_named, of_any, of_seq, of_alt_first, of_alt_second, of_many_none, of_many_more, of_def}
 use Rattle.rows.specs.Sheet.{leaf_text, leaf_named, leaf_any}
 use Rattle.sheet.specs.Meaning.{Follows, itself, in_seq_first, in_seq_second, in_alt_first, in_alt_second, in_many, in_def}

@@ -1,6 +1,6 @@
 use Rattle.std.proofs.Common.{◌≡◌, ℕ, ◌≤◌, ◌⊎◌, sym, inl, inr, arith}
 use Rattle.forest.specs.Forest.{Forest}
-use Rattle.rows.specs.Sheet.{Sheet, at, Side, first, second}
+use Rattle.rows.specs.Sheet.{Sheet, Side, first, second}
 use Rattle.rows.specs.Sheet.{Part, seq_first, seq_second, alt_first, alt_second, many_part, def_part}
 use Rattle.sheet.specs.Meaning.{Follows, itself, in_seq_first, in_seq_second, in_alt_first, in_alt_second, in_many, in_def}
 use Rattle.rows.specs.Steps.{WellFormed}

@@ -4,7 +4,7 @@ use Rattle.std.proofs.lemmas.List.{take_all}
 use Rattle.rows.specs.Sheet.{empty, places}
 use Rattle.rows.proofs.Checks.{PlaceSet, place_of, place_more, place_same, set_more, set_same_more}
 use Rattle.rows.proofs.check.number_places.Goals as goal
-use Rattle.rows.proofs.check.number_places.Goals.{then-is-place+else-count-eq64, else-is-place}
+use Rattle.rows.proofs.check.number_places.Goals.{then-is_place+else-count-eq64, else-is_place}
 
 pub returns-then-count-eq64 : goal.returns-then-count-eq64
 returns-then-count-eq64 c = (
@@ -25,14 +25,14 @@ loop-e-preserved c =
     (λ k b. get_or-set_other c.loop-e.numbers e k (ones c.loop-e.set) 0 (omega arith) ∙ inv.2 k b)
     (get_or-set_same c.loop-e.numbers e (ones c.loop-e.set) 0 l ∙ p.many) in
     elim c.if-is_place.branch [
-      | then-is-place+else-count-eq64 w ↦
+      | then-is_place+else-count-eq64 w ↦
           let y = w.if-is_place.ensures.0 tt in
           let w128 : c.loop-e.e < 128 = omega arith in (
             subst (λ (m : ℕ). PlaceSet c.args.rows.now (c.loop-e.e + 1) m) (sym w.set-is) (set_more s e c.loop-e.set empty w128 h y p),
             omega (arith, place_more s e empty h y, p.many, w.if-count-eq64.false),
             n,
           )
-      | else-is-place w ↦
+      | else-is_place w ↦
           let y : _ → ⊥ = λ z. w.if-is_place.ensures.1 z in (
             subst (λ (m : ℕ). PlaceSet c.args.rows.now (c.loop-e.e + 1) m) (sym w.set-is) (set_same_more s e c.loop-e.set empty h y p),
             omega (arith, place_same s e empty h y),

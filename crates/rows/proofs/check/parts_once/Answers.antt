@@ -6,10 +6,10 @@ use Rattle.rows.proofs.Numbers.{at_get_or}
 use Rattle.rows.proofs.Checks.{definition_row, not_definition}
 use Rattle.rows.proofs.Tallies.{zeros, once_used, used_once}
 use Rattle.rows.proofs.check.parts_once.Goals as goal
-use Rattle.rows.proofs.check.parts_once.Goals.{else-used-a-ne1-via-then-used-a-ne1+else-not-is-definition, else-used-a-ne1-via-else-used-a-ne1}
+use Rattle.rows.proofs.check.parts_once.Goals.{else-used-a-ne1-via-then-used-a-ne1+else-not-is_definition, else-used-a-ne1-via-else-used-a-ne1}
 
 pub tally-requires : goal.tally-requires
-tally-requires c = ((c.requires.0, (c.requires.1, refl)), λ a. zeros 128 a)
+tally-requires c = record { by_index = (c.requires.0, (c.requires.1, refl)); by_index_2 = λ a. zeros 128 a }
 
 pub returns-then-not-is_definition : goal.returns-then-not-is_definition
 returns-then-not-is_definition c =
@@ -31,7 +31,7 @@ loop-a-preserved c =
     let i = at_get_or s c.loop-a.a empty c.loop-a-test.true in
     below_more (OnceAPart s) c.loop-a.a c.loop-a.invariant
     (elim c.else-used-a-ne1.branch [
-      | else-used-a-ne1-via-then-used-a-ne1+else-not-is-definition w ↦
+      | else-used-a-ne1-via-then-used-a-ne1+else-not-is_definition w ↦
           let d = definition_row _ (w.if-not-is_definition.ensures.0 tt) in is_definition (i ∙ ap some d.1)
       | else-used-a-ne1-via-else-used-a-ne1 w ↦ once_used s c.loop-a.a (sym (c.tally.ensures c.loop-a.a) ∙ w.if-used-a-ne1.false)
     ])

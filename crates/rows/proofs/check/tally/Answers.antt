@@ -9,10 +9,10 @@ use Rattle.rows.proofs.check.tally.Goals as goal
 pub tally_row-requires : goal.tally_row-requires
 tally_row-requires c =
     let s = c.args.rows.now in
-    let h = c.loop-e-test.true in (
-      fit_below s c.loop-e.e _ _ c.requires.0.0 (at_get_or s c.loop-e.e empty h) (omega arith),
-      λ a. let m = uses_most s c.loop-e.e a in let q = c.loop-e.invariant a in omega arith,
-    )
+    let h = c.loop-e-test.true in record {
+      parts_below = fit_below s c.loop-e.e _ _ c.requires.by_index.0 (at_get_or s c.loop-e.e empty h) (omega arith);
+      by_index = λ a. let m = uses_most s c.loop-e.e a in let q = c.loop-e.invariant a in omega arith;
+    }
 
 pub loop-e-preserved : goal.loop-e-preserved
 loop-e-preserved c a =

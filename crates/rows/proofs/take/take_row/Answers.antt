@@ -39,7 +39,7 @@ pub returns-in-6-2 : goal.returns-in-6-2
 returns-in-6-2 c =
     let raw = c.args.raw in
     let below = c.args.below.now in
-    elim c.in-6-2·.branch [
+    elim c.in-6-2-1.branch [
       | in-6+then-second-eq0-4+then-third-eq0-5+else-a-3 w ↦
           astray raw below (many raw.first) (as_many w.in-6.is (omega arith) (omega arith)) (λ p. w.if-a-3.ensures.1 p)
       | in-6+then-second-eq0-4+else-third-eq0-5 w ↦ absurd (omega arith)
@@ -54,7 +54,7 @@ pub returns-in-4-2 : goal.returns-in-4-2
 returns-in-4-2 c =
     let raw = c.args.raw in
     let below = c.args.below.now in
-    elim c.in-4-2·.branch [
+    elim c.in-4-2-1.branch [
       | in-4+then-third-eq0-3+then-a+else-b w ↦
           astray raw below (seq raw.first raw.second) (as_seq w.in-4.is (omega arith)) (λ p. w.if-b.ensures.1 p.1)
       | in-4+then-third-eq0-3+else-a w ↦

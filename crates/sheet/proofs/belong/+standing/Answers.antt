@@ -29,7 +29,7 @@ returns-in-Text t c =
       onward = omega arith;
       gone = go_text c.in-Some.event c.in-Text.is (λ ts k. c.in-Some.ensures.handed ts k)
           (subst (λ (b : List ℕ). GoneThrough (rows_of c.args.sheet.now) b c.next.new.self.at c.standing-rest.new.events.at c.standing-rest.result) c.next.ensures.same c.standing-rest.ensures.gone)
-          c.of-text.ensures;
+          c.of_text.ensures;
     }
 
 pub returns-in-Opening : goal.returns-in-Opening
@@ -44,7 +44,7 @@ returns-in-Opening t c =
           (subst (λ (b : List ℕ). GoneThrough (rows_of c.args.sheet.now) b c.next.new.self.at c.standing-content.new.events.at c.standing-content.result) c.next.ensures.same c.standing-content.ensures.gone)
           (subst (λ (b : List ℕ). GoneThrough (rows_of c.args.sheet.now) b c.standing-content.new.events.at c.standing-rest-in-Opening.new.events.at c.standing-rest-in-Opening.result)
           (c.standing-content.ensures.same ∙ c.next.ensures.same) c.standing-rest-in-Opening.ensures.gone)
-          c.of-node.ensures;
+          c.of_node.ensures;
     }
 
 pub returns-in-Closing : goal.returns-in-Closing
@@ -53,14 +53,14 @@ returns-in-Closing t c =
     record {
       same = c.next.ensures.same;
       onward = omega arith;
-      gone = go_closing c.in-Some.event c.in-Closing.is (λ ts k. c.in-Some.ensures.handed ts k) c.of-empty-in-Closing.ensures;
+      gone = go_closing c.in-Some.event c.in-Closing.is (λ ts k. c.in-Some.ensures.handed ts k) c.of_empty-in-Closing.ensures;
     }
 
-pub returns-in-default : goal.returns-in-default
-returns-in-default t c =
-    let w = none_stays c.args.events.now.body.now c.args.events.now.at c.next.new.self.at c.args.events.now.whole c.in-default.ensures.handed in
+pub returns-in_default : goal.returns-in_default
+returns-in_default t c =
+    let w = none_stays c.args.events.now.body.now c.args.events.now.at c.next.new.self.at c.args.events.now.whole c.in_default.ensures.handed in
     record {
       same = c.next.ensures.same;
       onward = w;
-      gone = go_none (λ ts k. c.in-default.ensures.handed ts k) c.of-empty.ensures;
+      gone = go_none (λ ts k. c.in_default.ensures.handed ts k) c.of_empty.ensures;
     }

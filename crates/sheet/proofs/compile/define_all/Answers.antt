@@ -9,7 +9,7 @@ use Rattle.rows.proofs.Taking.{same_row}
 use Rattle.sheet.proofs.PlaceSets.{set_none}
 use Rattle.sheet.proofs.Tabling.{tabled_none, ends_none, leads_none, ends_more, ends_stay, leads_more, leads_stay}
 use Rattle.sheet.proofs.compile.define_all.Goals as goal
-use Rattle.sheet.proofs.compile.define_all.Goals.{in-Def, in-default}
+use Rattle.sheet.proofs.compile.define_all.Goals.{in-Def, in_default}
 
 pub loop-e-init : goal.loop-e-init
 loop-e-init c =
@@ -32,9 +32,9 @@ loop-e-preserved c =
             subst (λ (t : List ℕ). Tabled c.args.rows.now t (LeadsBelow c.args.rows.now (c.loop-e.e + 1))) (sym w.before-is) (leads_more e w.in-Def.x j inv.1 w.define-ends.ensures.grown),
             omega arith,
           )
-      | in-default w ↦ (
-        subst (λ (m : ℕ). SetOf c.args.rows.now m (EndsBelow c.args.rows.now (c.loop-e.e + 1))) (sym w.ends-is) (ends_stay e (λ x j. w.in-default.not-Def x (same_row (sym i ∙ j))) inv.0),
-        subst (λ (t : List ℕ). Tabled c.args.rows.now t (LeadsBelow c.args.rows.now (c.loop-e.e + 1))) (sym w.before-is) (leads_stay e (λ x j. w.in-default.not-Def x (same_row (sym i ∙ j))) inv.1),
+      | in_default w ↦ (
+        subst (λ (m : ℕ). SetOf c.args.rows.now m (EndsBelow c.args.rows.now (c.loop-e.e + 1))) (sym w.ends-is) (ends_stay e (λ x j. w.in_default.not-Def x (same_row (sym i ∙ j))) inv.0),
+        subst (λ (t : List ℕ). Tabled c.args.rows.now t (LeadsBelow c.args.rows.now (c.loop-e.e + 1))) (sym w.before-is) (leads_stay e (λ x j. w.in_default.not-Def x (same_row (sym i ∙ j))) inv.1),
         omega arith,
       )
     ]

@@ -7,31 +7,31 @@ use Rattle.rows.proofs.Numbers.{at_get_or, defines_all, fewer_definitions}
 use Rattle.rows.proofs.Taking.{same_row}
 use Rattle.sheet.proofs.Tabling.{home_small, number_small, tabled_none, named_one, names_place, holder_more, holder_stay, holder_all}
 use Rattle.sheet.proofs.compile.fill_holders.Goals as goal
-use Rattle.sheet.proofs.compile.fill_holders.Goals.{in-default, in-Named2}
+use Rattle.sheet.proofs.compile.fill_holders.Goals.{in_default, in-Named2}
 
 pub loop-p-init : goal.loop-p-init
-loop-p-init c = (tabled_none c.args.holders.now c.requires.1.1.1 (λ q w z. let h = z.0 in omega arith), c.requires.1.1.0)
+loop-p-init c = (tabled_none c.args.holders.now c.requires.homes_len.1.1 (λ q w z. let h = z.0 in omega arith), c.requires.homes_len.1.0)
 
 pub bit-requires : goal.bit-requires
 bit-requires c =
     let s = c.args.rows.now in
     let h = c.loop-p-test.true in
-    number_small s c.args.numbers.now c.loop-p.p c.requires.0.0 h
+    number_small s c.args.numbers.now c.loop-p.p c.requires.ready.0 h
     (names_place (named_one {d = c.in-Named.d} _ (at_get_or s c.loop-p.p empty h) c.in-Named.is))
 
 pub bounds-homes-d : goal.bounds-homes-d
 bounds-homes-d c =
     let s = c.args.rows.now in
     let n = named_one {d = c.in-Named.d} _ (at_get_or s c.loop-p.p empty c.loop-p-test.true) c.in-Named.is in
-    omega (arith, c.requires.0.1.0.named c.loop-p.p c.in-Named.d n, fewer_definitions s, c.requires.0.0.few, c.requires.1.0)
+    omega (arith, c.requires.ready.1.0.named c.loop-p.p c.in-Named.d n, fewer_definitions s, c.requires.ready.0.few, c.requires.homes_len.0)
 
 pub bit-requires-in-Named : goal.bit-requires-in-Named
 bit-requires-in-Named c =
     let s = c.args.rows.now in
     let n = named_one {d = c.in-Named.d} _ (at_get_or s c.loop-p.p empty c.loop-p-test.true) c.in-Named.is in
-    let d = defines_all s c.in-Named.d (c.requires.0.1.0.named c.loop-p.p c.in-Named.d n) in
-    let b = home_small s d.0 d.1 c.requires.0.0.few d.2.is in
-    omega (arith, c.requires.0.1.1 c.in-Named.d d.0 d.1 d.2)
+    let d = defines_all s c.in-Named.d (c.requires.ready.1.0.named c.loop-p.p c.in-Named.d n) in
+    let b = home_small s d.0 d.1 c.requires.ready.0.few d.2.is in
+    omega (arith, c.requires.ready.1.1 c.in-Named.d d.0 d.1 d.2)
 
 pub loop-p-preserved : goal.loop-p-preserved
 loop-p-preserved c =
@@ -41,16 +41,16 @@ loop-p-preserved c =
     let i = at_get_or s p empty h in
     let inv = c.loop-p.invariant in
     elim c.match-row.branch [
-      | in-default w ↦ (
+      | in_default w ↦ (
         subst (λ (t : List ℕ). Tabled c.args.rows.now t (HoldsBelow c.args.rows.now (c.loop-p.p + 1))) (sym w.holders-is)
-            (holder_stay p (λ d n. unnamed n (λ l j. w.in-default.not-Named l d (same_row (sym i ∙ j))) (λ j. w.in-default.not-Any d (same_row (sym i ∙ j)))) inv.0),
+            (holder_stay p (λ d n. unnamed n (λ l j. w.in_default.not-Named l d (same_row (sym i ∙ j))) (λ j. w.in_default.not-Any d (same_row (sym i ∙ j)))) inv.0),
         omega arith,
       )
       | in-Named2 w ↦
           let n = named_one {d = w.in-Named.d} _ i w.in-Named.is in
-          let d = defines_all s w.in-Named.d (c.requires.0.1.0.named p w.in-Named.d n) in
-          let q = w.bit.ensures ∙ ap (λ (m : ℕ). 2 ^ m) (c.requires.0.0.numbered p h) in
-          let r = w.bit-in-Named.ensures ∙ ap (λ (m : ℕ). 2 ^ m) (c.requires.0.1.1 w.in-Named.d d.0 d.1 d.2) in (
+          let d = defines_all s w.in-Named.d (c.requires.ready.1.0.named p w.in-Named.d n) in
+          let q = w.bit.ensures ∙ ap (λ (m : ℕ). 2 ^ m) (c.requires.ready.0.numbered p h) in
+          let r = w.bit-in-Named.ensures ∙ ap (λ (m : ℕ). 2 ^ m) (c.requires.ready.1.1 w.in-Named.d d.0 d.1 d.2) in (
             subst (λ (t : List ℕ). Tabled c.args.rows.now t (HoldsBelow c.args.rows.now (c.loop-p.p + 1))) (sym w.holders-is)
                 (holder_more p w.in-Named.d d.0 d.1 n d.2 q r w.link.ensures.bound w.link.ensures.bits inv.0),
             omega arith,

@@ -8,7 +8,7 @@ use Rattle.rows.proofs.Numbers.{at_get_or, at_below, fewer_definitions}
 use Rattle.rows.proofs.Checks.{definition_row, not_definition, one_more, none_more}
 use Rattle.sheet.proofs.Tabling.{HomesBelow, home_small, home_more, home_stay}
 use Rattle.sheet.proofs.compile.fill_homes.Goals as goal
-use Rattle.sheet.proofs.compile.fill_homes.Goals.{then-is-definition, else-is-definition}
+use Rattle.sheet.proofs.compile.fill_homes.Goals.{then-is_definition, else-is_definition}
 
 is_there : (s : Sheet) (e : ℕ) → e < length s → IsDefinition (get_or s e empty) → (x : ℕ) × (at s e ≡ some (def x))
 is_there s e h y = let d = definition_row (get_or s e empty) y in (d.0, at_get_or s e empty h ∙ ap some d.1)
@@ -22,14 +22,14 @@ room s ns e x r i =
 pub bounds-homes-count : goal.bounds-homes-count
 bounds-homes-count c =
     let s = c.args.rows.now in
-    let d = is_there s c.loop-e.e c.loop-e-test.true (c.if-is-definition.ensures.0 tt) in
+    let d = is_there s c.loop-e.e c.loop-e-test.true (c.if-is_definition.ensures.0 tt) in
     let b = room s c.args.numbers.now c.loop-e.e d.0 c.requires.0 d.1 in
     omega (arith, c.loop-e.invariant.0)
 
-pub overflow-add-count : goal.overflow-add-count
-overflow-add-count c =
+pub overflow_add-count : goal.overflow_add-count
+overflow_add-count c =
     let s = c.args.rows.now in
-    let d = is_there s c.loop-e.e c.loop-e-test.true (c.if-is-definition.ensures.0 tt) in
+    let d = is_there s c.loop-e.e c.loop-e-test.true (c.if-is_definition.ensures.0 tt) in
     let b = room s c.args.numbers.now c.loop-e.e d.0 c.requires.0 d.1 in
     omega (arith, c.loop-e.invariant.0)
 
@@ -39,9 +39,9 @@ loop-e-preserved c =
     let e = c.loop-e.e in
     let h = c.loop-e-test.true in
     let inv = c.loop-e.invariant in
-    elim c.if-is-definition.branch [
-      | then-is-definition w ↦
-          let y = w.if-is-definition.ensures.0 tt in
+    elim c.if-is_definition.branch [
+      | then-is_definition w ↦
+          let y = w.if-is_definition.ensures.0 tt in
           let d = is_there s e h y in
           let b = room s c.args.numbers.now e d.0 c.requires.0 d.1 in
           let l : definitions (take c.loop-e.e c.args.rows.now) < length c.loop-e.homes = omega arith in
@@ -50,8 +50,8 @@ loop-e-preserved c =
             subst (λ (hs : List ℕ). HomesBelow c.args.rows.now (c.loop-e.e + 1) hs) (sym w.homes-is)
                 (subst (λ (k : ℕ). HomesBelow c.args.rows.now (c.loop-e.e + 1) (set c.loop-e.homes k (get_or c.args.numbers.now c.loop-e.e 0))) (sym inv.0) g),
           )
-      | else-is-definition w ↦
-          let y : IsDefinition (get_or c.args.rows.now c.loop-e.e empty) → ⊥ = λ z. w.if-is-definition.ensures.1 z in (
+      | else-is_definition w ↦
+          let y : IsDefinition (get_or c.args.rows.now c.loop-e.e empty) → ⊥ = λ z. w.if-is_definition.ensures.1 z in (
             omega (arith, w.count-is, inv.0, none_more s e empty h y),
             subst (λ (hs : List ℕ). HomesBelow c.args.rows.now (c.loop-e.e + 1) hs) (sym w.homes-is)
                 (home_stay s c.loop-e.homes e (not_definition s e _ (at_get_or s e empty h) y) inv.1),

@@ -7,7 +7,7 @@ use Rattle.rows.proofs.Numbers.{at_get_or}
 use Rattle.rows.proofs.Taking.{same_row}
 use Rattle.sheet.proofs.Tabling.{number_small, label_more, label_stay}
 use Rattle.sheet.proofs.compile.fill_labels.Goals as goal
-use Rattle.sheet.proofs.compile.fill_labels.Goals.{in-Named, in-default}
+use Rattle.sheet.proofs.compile.fill_labels.Goals.{in-Named, in_default}
 
 pub bounds-labels-numbers : goal.bounds-labels-numbers
 bounds-labels-numbers c =
@@ -30,9 +30,9 @@ loop-p-preserved c =
           let n : get_or c.args.numbers.now c.loop-p.p 0 < length c.loop-p.labels = omega arith in
           subst (λ (ls : List ℕ). Labels c.args.rows.now (c.loop-p.p + 1) ls) (sym w.labels-is)
           (label_more s c.loop-p.labels p _ w.in-Named.label w.in-Named.field-1 j (c.requires.0.numbered p h) n c.loop-p.invariant)
-      | in-default w ↦
+      | in_default w ↦
           subst (λ (ls : List ℕ). Labels c.args.rows.now (c.loop-p.p + 1) ls) (sym w.labels-is)
-          (label_stay s c.loop-p.labels p (λ l d j. w.in-default.not-Named l d (same_row (sym i ∙ j))) c.loop-p.invariant)
+          (label_stay s c.loop-p.labels p (λ l d j. w.in_default.not-Named l d (same_row (sym i ∙ j))) c.loop-p.invariant)
     ]
 
 pub returns : goal.returns

@@ -9,7 +9,7 @@ use Rattle.rows.proofs.Taking.{same_row}
 use Rattle.sheet.proofs.PlaceSets.{set_none}
 use Rattle.sheet.proofs.Tabling.{number_small, kind_place, kind_more, kind_stay, kind_all}
 use Rattle.sheet.proofs.compile.leaves.Goals as goal
-use Rattle.sheet.proofs.compile.leaves.Goals.{then-is-leaf, else-is-leaf}
+use Rattle.sheet.proofs.compile.leaves.Goals.{then-is_leaf, else-is_leaf}
 
 here : (s : Sheet) (p : ℕ) (kind : LeafKind) → p < length s → OfKind kind (get_or s p empty) → KindAt s kind p
 here s p kind h k = (get_or s p empty, at_get_or s p empty h, k)
@@ -21,7 +21,7 @@ pub bit-all-requires : goal.bit-all-requires
 bit-all-requires c =
     let h = c.loop-p-test.true in
     number_small c.args.rows.now c.args.numbers.now c.loop-p.p c.requires h
-    (kind_place c.args.kind (here c.args.rows.now c.loop-p.p c.args.kind h (c.if-is-leaf.ensures.0 tt)))
+    (kind_place c.args.kind (here c.args.rows.now c.loop-p.p c.args.kind h (c.if-is_leaf.ensures.0 tt)))
 
 pub loop-p-preserved : goal.loop-p-preserved
 loop-p-preserved c =
@@ -29,16 +29,16 @@ loop-p-preserved c =
     let p = c.loop-p.p in
     let kind = c.args.kind in
     let h = c.loop-p-test.true in
-    elim c.if-is-leaf.branch [
-      | then-is-leaf w ↦
-          let k = here s p kind h (w.if-is-leaf.ensures.0 tt) in
+    elim c.if-is_leaf.branch [
+      | then-is_leaf w ↦
+          let k = here s p kind h (w.if-is_leaf.ensures.0 tt) in
           let q = w.bit-all.ensures ∙ ap (λ (n : ℕ). 2 ^ n) (c.requires.numbered p h) in
           subst (λ (m : ℕ). SetOf c.args.rows.now m (KindBelow c.args.rows.now c.args.kind (c.loop-p.p + 1))) (sym w.all-is)
           (kind_more kind p k (kind_place kind k) q c.loop-p.invariant)
-      | else-is-leaf w ↦
+      | else-is_leaf w ↦
           subst (λ (m : ℕ). SetOf c.args.rows.now m (KindBelow c.args.rows.now c.args.kind (c.loop-p.p + 1))) (sym w.all-is)
           (kind_stay kind p
-          (λ z. w.if-is-leaf.ensures.1 (subst (λ (r : Row). OfKind c.args.kind r) (same_row (sym z.1 ∙ at_get_or s p empty h)) z.2))
+          (λ z. w.if-is_leaf.ensures.1 (subst (λ (r : Row). OfKind c.args.kind r) (same_row (sym z.1 ∙ at_get_or s p empty h)) z.2))
           c.loop-p.invariant)
     ]
 

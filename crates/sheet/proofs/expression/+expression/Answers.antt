@@ -79,8 +79,8 @@ returns-in-Seq t c =
     let x = c.expression-first in
     let y = c.expression-second in
     record {
-      shaped = shape_seq c.args.e x.result y.result c.in-turn.result i x.ensures.shaped y.ensures.shaped
-          c.in-turn.ensures.empty c.in-turn.ensures.opening c.in-turn.ensures.closing;
+      shaped = shape_seq c.args.e x.result y.result c.in_turn.result i x.ensures.shaped y.ensures.shaped
+          c.in_turn.ensures.empty c.in_turn.ensures.opening c.in_turn.ensures.closing;
       grown = grown_seq c.link.new.table c.args.e x.result y.result i x.ensures.shaped y.ensures.shaped
           x.ensures.grown y.ensures.grown c.link.ensures.bound c.link.ensures.bits;
     }

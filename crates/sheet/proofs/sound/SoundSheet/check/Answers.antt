@@ -6,22 +6,23 @@ use Rattle.sheet.proofs.sound.SoundSheet.check.Goals as goal
 
 pub compile-tables-requires : goal.compile-tables-requires
 compile-tables-requires c =
-    let checked = c.in-ok-checked.checked in
+    let checked = c.in_ok-checked.checked in
     let z : checked.count ≡ checked.count - 0 = omega arith in
-    let w = c.in-ok-checked.ensures.answer in
+    let w = c.in_ok-checked.ensures.answer in
     subst (λ (m : ℕ). Ready (take m checked.rows) checked.numbers × AllThere (take m checked.rows)) z
     (made_ready w.passes.sound w.numbered w.long)
 
-pub invariant-of-self : goal.invariant-of-self
-invariant-of-self c =
-    let checked = c.in-ok-checked.checked in
+pub invariant_of-self : goal.invariant_of-self
+invariant_of-self c =
+    let checked = c.in_ok-checked.checked in
     let z : checked.count - 0 ≡ checked.count = omega arith in
-    let w = c.in-ok-checked.ensures.answer in (
-      w.short,
-      (∣ w.passes.sound ∣₁, (∣ subst (λ (m : ℕ). Compiled (take m checked.rows) c.compile-tables.result) z c.compile-tables.ensures ∣₁, tt)),
-    )
+    let w = c.in_ok-checked.ensures.answer in record {
+      short = w.short;
+      sound = ∣ w.passes.sound ∣₁;
+      compiled = ∣ subst (λ (m : ℕ). Compiled (take m checked.rows) c.compile-tables.result) z c.compile-tables.ensures ∣₁;
+    }
 
 pub returns : goal.returns
 returns c =
-    let w = c.in-ok-checked.ensures in
+    let w = c.in_ok-checked.ensures in
     record { answer = w.answer.passes; one = w.one }

@@ -5,5 +5,5 @@ use Rattle.sheet.proofs.sound.SoundSheet.empty.Goals as goal
 pub compile-tables-requires : goal.compile-tables-requires
 compile-tables-requires c = empty_ready
 
-pub invariant-of-result : goal.invariant-of-result
-invariant-of-result c = (omega arith, (∣ empty_sound ∣₁, (∣ c.compile-tables.ensures ∣₁, tt)))
+pub invariant_of-result : goal.invariant_of-result
+invariant_of-result c = record { short = omega arith; sound = ∣ empty_sound ∣₁; compiled = ∣ c.compile-tables.ensures ∣₁ }
