@@ -1,5 +1,5 @@
 -- What a survey says of lost forests.
-use Rattle.std.proofs.Common.{◌≡◌, ℕ, ◌+◌, ◌<◌, ◌≤◌, Bool, ◌⊎◌, List, length, sym, ◌∙◌, subst, inl, inr, arith}
+use Rattle.std.proofs.Common.{◌≡◌, ℕ, ◌+◌, ◌<◌, ◌≤◌, Bool, ◌⊎◌, List, sym, ◌∙◌, subst, inl, inr, arith}
 use Rattle.forest.specs.declared.fault.Fault.{Fault}
 use Rattle.forest.specs.Forest.{Forest}
 use Rattle.measure.specs.Measure.{Costs, Ordered, Lawful, cost_of}

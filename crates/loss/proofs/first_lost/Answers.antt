@@ -13,15 +13,15 @@ loop-k-preserved g c d j lt f counted has =
       | inl h ↦ c.loop-k.invariant d j h f counted has
       | inr p ↦
           let here = subst (λ (i : ℕ). s.has f (get_or xs i d).standings) p has in
-          c.is-lost.ensures.no c.if-is-lost.false f counted (subst (λ (x : Sort C). s.has f x.standings) (get_or_default xs c.loop-k.k d c.index-list-k.result (omega arith)) here)
+          c.is_lost.ensures.no c.if-is_lost.false f counted (subst (λ (x : Sort C). s.has f x.standings) (get_or_default xs c.loop-k.k d c.index-list-k.result (omega arith)) here)
     ]
 
-pub returns-then-is-lost : goal.returns-then-is-lost
-returns-then-is-lost g c d =
+pub returns-then-is_lost : goal.returns-then-is_lost
+returns-then-is_lost g c d =
     let C = g.row.C.Denot in
     let s = g.S.Sorting.model c.args.sorting.now in
     let xs = c.args.list.now in (
       omega arith,
-      (λ f counted has. c.is-lost.ensures.yes c.if-is-lost.true f counted (subst (λ (x : Sort C). s.has f x.standings) (get_or_default xs c.loop-k.k d c.index-list-k.result (omega arith)) has)),
+      (λ f counted has. c.is_lost.ensures.yes c.if-is_lost.true f counted (subst (λ (x : Sort C). s.has f x.standings) (get_or_default xs c.loop-k.k d c.index-list-k.result (omega arith)) has)),
       c.loop-k.invariant d,
     )

@@ -7,8 +7,8 @@ use Rattle.loss.specs.Verdict.{Loss}
 use Rattle.loss.proofs.Judging.{told}
 use Rattle.loss.proofs.tell.Goals as goal
 
-pub offset-bounds-list-k : goal.offset-bounds-list-k
-offset-bounds-list-k g c = let h : c.args.k < length c.args.list.now = omega (arith, c.requires.first.0, c.requires.surveyed.fits) in search rules
+pub offset_bounds-list-k : goal.offset_bounds-list-k
+offset_bounds-list-k g c = let h : c.args.k < length c.args.list.now = omega (arith, c.requires.first.0, c.requires.surveyed.fits) in search rules
 
 pub returns : goal.returns
 returns g c =

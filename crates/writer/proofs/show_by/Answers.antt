@@ -4,7 +4,6 @@ use Rattle.forest.specs.Forest.{Forest, bytes_of}
 use Rattle.measure.proofs.Lengths.{counts_bytes}
 use Rattle.survey.specs.declared.types.Sort.{Sort}
 use Rattle.survey.specs.Survey.{setting, entry, blank}
-use Rattle.writer.specs.Tables.{forest}
 use Rattle.writer.proofs.Rebuilds.{ready}
 use Rattle.writer.proofs.show_by.Goals as goal
 

@@ -7,8 +7,8 @@ use Rattle.writer.proofs.write.Goals as goal
 pub returns : goal.returns
 returns c =
     let bs = bytes_of (forest c.args.table.now c.args.index) in
-    let e : c.write-at.result ≡ length bs = omega (arith, c.write-at.ensures.end) in
+    let e : c.write_at.result ≡ length bs = omega (arith, c.write_at.ensures.end) in
     record {
       size = e;
-      front = c.write-at.ensures.wrote ∙ overlay_front c.args.out.now bs c.requires.room ∙ ap (λ (n : ℕ). bs ++ drop n c.args.out.now) (sym e);
+      front = c.write_at.ensures.wrote ∙ overlay_front c.args.out.now bs c.requires.room ∙ ap (λ (n : ℕ). bs ++ drop n c.args.out.now) (sym e);
     }
