@@ -7,22 +7,23 @@ use Rattle.stream.specs.Stream.{a_sheet, a_record}
 pub returns-in-empty : goal.returns-in-empty
 returns-in-empty c = record { tells = nothing_at _ (search rules); law = just_one_front }
 
-pub returns-in-ok-body : goal.returns-in-ok-body
-returns-in-ok-body c = let h = c.in-ok-body.ensures in
+pub returns-in_ok-body-in-84 : goal.returns-in_ok-body-in-84
+returns-in_ok-body-in-84 c = let h = c.in_ok-body-in-84.ensures in
     record { tells = whole_at a_sheet _ _ _ (search rules) (search rules) h.0 h.1; law = just_one_front }
 
-pub returns-in-ok-body-2 : goal.returns-in-ok-body-2
-returns-in-ok-body-2 c = let h = c.in-ok-body-2.ensures in
+pub returns-in_ok-body-in-82 : goal.returns-in_ok-body-in-82
+returns-in_ok-body-in-82 c = let h = c.in_ok-body-in-82.ensures in
     record { tells = whole_at a_record _ _ _ (search rules) (search rules) h.0 h.1; law = just_one_front }
 
-pub returns-in-err-body : goal.returns-in-err-body
-returns-in-err-body c = let h = c.in-err-body.ensures in
-    let p = err_from_is_err_and c.from_residual.result c.from_residual.ensures.1 in
+pub returns-in_err-body-in-84 : goal.returns-in_err-body-in-84
+returns-in_err-body-in-84 c = let h = c.in_err-body-in-84.ensures in
+    let r = c.from_residual in
+    let p = err_from_is_err_and r.result r.ensures.1 in
     record { tells = rw (p.1, p.2, h.0, h.1) (in_body_at a_sheet _ (search rules) (search rules) h.2); law = just_one_front }
 
-pub returns-in-err-body-2 : goal.returns-in-err-body-2
-returns-in-err-body-2 c = let h = c.in-err-body-2.ensures in
-    let r = c.from-residual-in-err-body-2 in
+pub returns-in_err-body-in-82 : goal.returns-in_err-body-in-82
+returns-in_err-body-in-82 c = let h = c.in_err-body-in-82.ensures in
+    let r = c.from_residual-in_err-body-in-82 in
     let p = err_from_is_err_and r.result r.ensures.1 in
     record { tells = rw (p.1, p.2, h.0, h.1) (in_body_at a_record _ (search rules) (search rules) h.2); law = just_one_front }
 

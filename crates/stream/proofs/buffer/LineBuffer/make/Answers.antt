@@ -13,7 +13,7 @@ add_fields-requires c = omega (arith, decimal_short c.args.number (omega arith))
 pub invariant_of-self : goal.invariant_of-self
 invariant_of-self c =
     let h = (adds_more c.digits.ensures c.add_fields.ensures.adds).holds [] c.clear.ensures in
-    (c.add_fields.ensures.within, (blank_past c.add_fields.new.w _ h, tt))
+    record { within = c.add_fields.ensures.within; blank = blank_past c.add_fields.new.w _ h }
 
 pub returns : goal.returns
 returns c =
