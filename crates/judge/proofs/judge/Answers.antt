@@ -10,13 +10,13 @@ returns g c =
     let m = g.M.Measure.model c.args.measure.now in
     let p = c.of-pair.result in
     let n = length c.args.list.now in
-    let r = c.judge-by.result in
+    let r = c.judge_by.result in
     let before = c.args.show.now in
-    let after = c.judge-by.new.out in
+    let after = c.judge_by.new.out in
     record {
       judged =
           subst (λ (s : SoundSheet). Judged m (rows_of s) (rows_of c.args.new.now) n r before after) c.of-pair.ensures.old
           (subst (λ (s : SoundSheet). Judged m (rows_of p.old) (rows_of s) n r before after) c.of-pair.ensures.new
-          (judged p m before after n c.args.list.now c.judge-by.new.list r c.judge-by.ensures));
-      unbegun = unbegun p m before after n c.args.list.now c.judge-by.new.list r c.judge-by.ensures;
+          (judged p m before after n c.args.list.now c.judge_by.new.list r c.judge_by.ensures));
+      unbegun = unbegun p m before after n c.args.list.now c.judge_by.new.list r c.judge_by.ensures;
     }

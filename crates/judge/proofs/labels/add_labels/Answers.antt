@@ -6,8 +6,8 @@ use Rattle.rows.proofs.Numbers.{at_get_or, at_below}
 use Rattle.judge.specs.Trying.{tried_more}
 use Rattle.judge.proofs.labels.add_labels.Goals as goal
 
-pub add-label-count-requires : goal.add-label-count-requires
-add-label-count-requires c =
+pub add_label-count-requires : goal.add_label-count-requires
+add_label-count-requires c =
     record {
       room = omega (arith, c.loop-row.invariant.1, c.requires.room);
       labelled = λ l d e. c.requires.labelled c.loop-row.row-index l d (at_get_or c.args.rows.now c.loop-row.row-index Empty (omega arith) ∙ ap (λ (r : Row). some r) e);
@@ -17,11 +17,11 @@ add-label-count-requires c =
 pub loop-row-preserved : goal.loop-row-preserved
 loop-row-preserved c =
     let i = c.loop-row.invariant in
-    let z = c.add-label-count.ensures in (
+    let z = c.add_label-count.ensures in (
       omega (arith, i.0, z.low),
       omega (arith, i.1, z.high),
       (λ k h. z.kept k (omega (arith, i.0)) ∙ i.2 k h),
-      tried_more c.args.rows.now c.loop-row.row-index (get_or c.args.rows.now c.loop-row.row-index Empty) c.loop-row.labels c.add-label-count.new.labels c.loop-row.count c.add-label-count.result (at_get_or c.args.rows.now c.loop-row.row-index Empty (omega arith)) z.low z.kept z.there i.3,
+      tried_more c.args.rows.now c.loop-row.row-index (get_or c.args.rows.now c.loop-row.row-index Empty) c.loop-row.labels c.add_label-count.new.labels c.loop-row.count c.add_label-count.result (at_get_or c.args.rows.now c.loop-row.row-index Empty (omega arith)) z.low z.kept z.there i.3,
       z.real,
     )
 
