@@ -1,20 +1,17 @@
 -- Calls at their bounds.
-use Rattle.std.proofs.Common.{◌≡◌, ℕ, zero, suc, ◌+◌, ◌<◌, ◌≤◌, min, Bool, true, false, ◌⊎◌, List, [], ◌∷◌, ◌++◌, length, take, drop, sym, refl, ap, ◌∙◌, subst, inl, inr, arith, length-append, length-drop}
+use Rattle.std.proofs.Common.{◌≡◌, ℕ, ◌+◌, ◌<◌, ◌≤◌, min, true, false, ◌⊎◌, List, [], ◌∷◌, ◌++◌, length, take, drop, sym, refl, ap, ◌∙◌, subst, inl, inr, arith, length-append, length-drop}
 use mathlib.Core.Option.{Option, none, some}
 use lib.Seq.{drop-length}
-use Rattle.std.proofs.lemmas.List.{length_push}
 use Rattle.std.proofs.lemmas.Slice.{drop-append-drop}
 use Rattle.forest.specs.Forest.{Forest, bytes_of}
 use Rattle.forest.specs.Reading.{StandsFor}
 use Rattle.forest.proofs.Forms.{one_form}
 use Rattle.rows.specs.Sheet.{Sheet}
-use Rattle.rows.specs.declared.row.Row.{Row}
 use Rattle.sheet.specs.Meaning.{OfSheet}
 use Rattle.measure.specs.Measure.{Costs, cost_of}
-use Rattle.measure.specs.Lengths.{length_of}
 use Rattle.measure.proofs.Lengths.{counts_bytes}
 use Rattle.judge.specs.Judging.{Told, Lost, front}
-use Rattle.law.specs.Calls.{Kept, Held, numbered, rows_of, bytes_in, RecordOf, Lent, Fetched, Giving}
+use Rattle.law.specs.Calls.{Held, numbered}
 use Rattle.law.specs.Bounds.{FilingBounds, FetchingBounds, ProposalBounds, MemoryBounds, LossShows, CallBounds}
 use Rattle.law.proofs.Lists.{numbered_within, rows_push, bytes_push}
 use Rattle.law.proofs.Counting.{take_front}

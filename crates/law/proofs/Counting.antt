@@ -1,13 +1,12 @@
 -- Numbers count up, the newest edition reads every record, and no limit is passed.
-use Rattle.std.proofs.Common.{◌≡◌, ℕ, zero, suc, ◌+◌, ◌-◌, ◌<◌, ◌≤◌, min, ◌⊎◌, ◌↔◌, List, [], ◌∷◌, ◌++◌, length, take, drop, Ok, Err, Result, sym, refl, ap, ◌∙◌, subst, inl, inr, arith}
+use Rattle.std.proofs.Common.{◌≡◌, ℕ, ◌<◌, ◌≤◌, ◌↔◌, List, [], ◌∷◌, ◌++◌, length, take, drop, Ok, Err, Result, sym, refl, ap, ◌∙◌, subst, inl, inr, arith}
 use mathlib.Core.Option.{Option, none, some}
 use Rattle.forest.specs.declared.fault.Fault.{Fault}
 use Rattle.rows.specs.Sheet.{Sheet}
 use Rattle.rows.specs.declared.row.Row.{Row}
 use Rattle.measure.specs.Measure.{Costs}
-use Rattle.judge.specs.Judging.{front}
-use Rattle.law.specs.Calls.{Kept, Held, newest, numbered, last_or, RecordOfNewest, RecordOf, Giving, fault}
-use Rattle.law.specs.Law.{Event, proposed, filed, fetched, History, newest_in, editions_in, rows_taken, records_in, bytes_taken, Edition, Accepted, Answered, Standing, Lawful}
+use Rattle.law.specs.Calls.{Kept, newest, numbered, RecordOfNewest}
+use Rattle.law.specs.Law.{Event, proposed, filed, fetched, History, newest_in, editions_in, records_in, Edition, Accepted, Answered, Standing, Lawful}
 use Rattle.law.specs.Follows.{GivenReads, NewestReads, ToldNext, CountsUp, Within}
 use Rattle.law.proofs.Lists.{numbered_within, numbered_there, last_numbered}
 use Rattle.law.proofs.Told.{Next, Counted, sheets, bodies, sheets_long, bodies_long, newest_is, accepted_is, accepted_at, edition_is, edition_at}

@@ -1,14 +1,13 @@
 -- A call has one answer.
-use Rattle.std.proofs.Common.{◌≡◌, ℕ, ◌+◌, ◌<◌, ◌≤◌, ◌⊎◌, List, [], ◌∷◌, length, Ok, Err, Result, sym, refl, ap, ◌∙◌, subst, inl, inr, arith}
+use Rattle.std.proofs.Common.{◌≡◌, ℕ, List, length, Ok, Err, Result, sym, refl, ap, ◌∙◌, subst, inl, inr, arith}
 use mathlib.Core.Option.{Option, none, some}
 use Rattle.forest.specs.declared.fault.Fault.{Fault}
 use Rattle.rows.specs.Sheet.{Sheet}
 use Rattle.rows.specs.declared.row.Row.{Row}
 use Rattle.measure.specs.Measure.{Costs}
 use Rattle.law.specs.declared.Declined.{Declined}
-use Rattle.judge.specs.Judging.{AllKept}
-use Rattle.law.specs.Calls.{Kept, Held, newest, numbered, free_rows, Lent, Passed, Fails, Giving, Fetched, Filed, after_filing, Proposing, Proposed, after_proposing, DeclinedForLoss, reason, refusal, judging_checks, propose_checks}
-use Rattle.law.specs.Law.{History, Lawful, Accepted, Fetching, FilingLaw}
+use Rattle.law.specs.Calls.{Kept, Held, newest, numbered, free_rows, Lent, Passed, Fails, Giving, after_filing, Proposing, after_proposing, DeclinedForLoss, reason, refusal, judging_checks, propose_checks}
+use Rattle.law.specs.Law.{History, Lawful, Fetching, FilingLaw}
 use Rattle.law.specs.Follows.{Alike, both_accepted, both_refused, both_lost, OneAnswer, OneOutcome}
 use Rattle.law.proofs.Seasons.{filing_lawful}
 use Rattle.law.proofs.Counting.{one_record}

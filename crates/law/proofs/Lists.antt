@@ -1,6 +1,6 @@
 -- The last item and the item of a number, with one more at the end.
-use Rattle.std.proofs.Common.{◌≡◌, ℕ, zero, suc, ◌+◌, ◌-◌, ◌<◌, ◌≤◌, min, ◌⊎◌, List, [], ◌∷◌, ◌++◌, length, drop, sym, refl, ap, ◌∙◌, subst, inl, inr, arith}
-use mathlib.Core.Option.{Option, none, some}
+use Rattle.std.proofs.Common.{◌≡◌, ℕ, zero, suc, ◌+◌, ◌-◌, ◌<◌, ◌≤◌, min, ◌⊎◌, List, [], ◌∷◌, ◌++◌, length, drop, sym, refl, ◌∙◌, inl, inr, arith}
+use mathlib.Core.Option.{Option, some}
 use Rattle.std.proofs.lemmas.List.{length-drop, length_push}
 use Rattle.rows.specs.Sheet.{Sheet}
 use Rattle.law.specs.Calls.{Kept, last_or, numbered, rows_of, bytes_in}

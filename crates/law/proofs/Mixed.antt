@@ -1,5 +1,5 @@
 -- A step by one measure is a step by a combination that holds it.
-use Rattle.std.proofs.Common.{◌≡◌, ℕ, Bool, ◌⊎◌, List, Ok, Err, Result, sym, refl, ap, ◌∙◌, subst, inl, inr}
+use Rattle.std.proofs.Common.{◌≡◌, ℕ, Bool, List, Ok, Err, Result, sym, refl, ap, ◌∙◌, subst, inl, inr}
 use mathlib.Core.Option.{Option, none, some}
 use Rattle.forest.specs.Forest.{Forest}
 use Rattle.rows.specs.Sheet.{Sheet}

@@ -1,18 +1,17 @@
 -- Every season is lawful.
-use Rattle.std.proofs.Common.{◌≡◌, ℕ, zero, suc, ◌+◌, ◌-◌, ◌<◌, ◌≤◌, min, ◌⊎◌, ◌↔◌, List, [], ◌∷◌, ◌++◌, length, drop, Ok, Err, Result, sym, refl, ap, ◌∙◌, subst, inl, inr, arith}
+use Rattle.std.proofs.Common.{◌≡◌, ℕ, ◌+◌, ◌-◌, ◌<◌, ◌≤◌, min, ◌↔◌, List, [], ◌∷◌, ◌++◌, length, drop, Ok, Err, Result, sym, refl, ap, ◌∙◌, subst, inl, inr, arith}
 use mathlib.Core.Option.{Option, none, some}
 use Rattle.std.proofs.lemmas.List.{length_push}
 use Rattle.forest.specs.declared.fault.Fault.{Fault}
-use Rattle.forest.specs.Forest.{Forest}
 use Rattle.forest.proofs.Unique.{one_refusal, not_both}
 use Rattle.rows.specs.Sheet.{Sheet}
 use Rattle.rows.specs.declared.row.Row.{Row}
 use Rattle.measure.specs.Measure.{Costs}
 use Rattle.law.specs.declared.Declined.{Declined}
 use Rattle.judge.specs.Judging.{AllKept}
-use Rattle.law.specs.Calls.{Kept, Held, newest, last_or, numbered, rows_of, bytes_in, free_rows, free_bytes, with_edition, with_record, Lent, Passed, Fails, Check, Filing, Filed, Giving, Fetched, Proposing, Proposed, RecordOf, RecordOfNewest, DeclinedForLoss, earlier_checks, sorts_fit, all_kept, file_checks, propose_checks, fault, unless, reading}
-use Rattle.law.specs.Law.{Event, proposed, filed, fetched, History, Step, Run, newest_in, editions_in, rows_taken, records_in, bytes_taken, Edition, Accepted, Fetching, FilingLaw, SomeLost, LossTold, ProposalLaw, Answered, Standing, Lawful, SeasonLaw}
-use Rattle.law.proofs.Lists.{numbered_within, numbered_there, numbered_old, numbered_new, numbered_cases, last_numbered, last_push, left_over}
+use Rattle.law.specs.Calls.{Kept, Held, newest, numbered, free_rows, free_bytes, Lent, Passed, Fails, Check, Filing, Giving, Proposing, RecordOf, RecordOfNewest, DeclinedForLoss, earlier_checks, sorts_fit, file_checks, propose_checks, fault, unless, reading}
+use Rattle.law.specs.Law.{Event, proposed, filed, fetched, History, Step, Run, newest_in, editions_in, rows_taken, records_in, bytes_taken, Accepted, Fetching, FilingLaw, SomeLost, LossTold, ProposalLaw, Answered, Standing, Lawful, SeasonLaw}
+use Rattle.law.proofs.Lists.{numbered_within, numbered_there, numbered_cases, last_numbered, left_over}
 use Rattle.law.proofs.Told.{run_counted, sheets, bodies, told, sheets_long, sheets_rows, bodies_long, bodies_bytes, newest_is, told_is, accepted_is, accepted_at, edition_is, edition_at}
 
 -- A record belongs to the edition that it was filed under, which there is, and to every later one.

@@ -1,11 +1,11 @@
 -- A register holds what the calls so far tell.
-use Rattle.std.proofs.Common.{◌≡◌, ℕ, zero, suc, ◌+◌, ◌-◌, ◌<◌, ◌≤◌, min, ◌⊎◌, List, [], ◌∷◌, ◌++◌, length, drop, Ok, Err, Result, sym, refl, ap, ◌∙◌, subst, inl, inr, arith}
-use mathlib.Core.Option.{Option, none, some}
+use Rattle.std.proofs.Common.{◌≡◌, ℕ, ◌+◌, List, [], ◌∷◌, ◌++◌, length, drop, Ok, Err, sym, refl, ap, ◌∙◌, inl, inr, arith}
+use mathlib.Core.Option.{none, some}
 use Rattle.std.proofs.lemmas.List.{length_push, drop-drop}
 use Rattle.rows.specs.Sheet.{Sheet}
 use Rattle.rows.specs.declared.row.Row.{Row}
 use Rattle.measure.specs.Measure.{Costs}
-use Rattle.law.specs.Calls.{Kept, Held, newest, last_or, numbered, rows_of, bytes_in, free_rows, free_bytes, with_edition, with_record}
+use Rattle.law.specs.Calls.{Kept, Held, newest, numbered, rows_of, bytes_in, with_edition, with_record}
 use Rattle.law.specs.Law.{Event, proposed, filed, fetched, History, Step, Run, newest_in, editions_in, rows_taken, records_in, bytes_taken, Edition, Accepted}
 use Rattle.law.proofs.Lists.{last_push, rows_push, bytes_push, numbered_within, numbered_old, numbered_new, numbered_cases}
 

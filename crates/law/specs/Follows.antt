@@ -1,13 +1,13 @@
 -- What follows from the law of every season: the newest edition reads every record, a call has one answer,
 -- numbers count up from 1 and keep what they number, and no limit is passed.
-use Rattle.std.specs.Prelude.{◌≡◌, ℕ, ◌+◌, ◌<◌, ◌≤◌, min, Bool, ◌↔◌, List, ◌∷◌, length, take, Ok, Err, Result, ◌≢◌}
+use Rattle.std.specs.Prelude.{◌≡◌, ℕ, ◌+◌, ◌<◌, ◌≤◌, Bool, ◌↔◌, List, ◌∷◌, length, take, Ok, Err, Result, ◌≢◌}
 use Rattle.std.proofs.Math.Option.{Option, none, some}
 use Rattle.forest.specs.declared.fault.Fault.{Fault}
 use Rattle.rows.specs.Sheet.{Sheet}
 use Rattle.rows.specs.declared.row.Row.{Row}
 use Rattle.measure.specs.Measure.{Costs}
 use Rattle.law.specs.declared.Declined.{Declined}
-use Rattle.law.specs.Calls.{Held, newest, Lent, Reason, refusal, loss, reason, RecordOfNewest, Filed, Fetched, Proposed}
+use Rattle.law.specs.Calls.{Held, newest, Lent, refusal, loss, reason, RecordOfNewest, Filed, Fetched, Proposed}
 use Rattle.law.specs.Law.{Event, proposed, filed, fetched, History, newest_in, editions_in, rows_taken, records_in, bytes_taken, Edition, Accepted, Answered, Lawful}
 
 -- What a fetch that succeeds gives stands for a record of the newest edition.

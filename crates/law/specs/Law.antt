@@ -1,5 +1,5 @@
 -- Seasons of calls, and the law that holds in every one of them.
-use Rattle.std.specs.Prelude.{◌≡◌, ℕ, ◌+◌, ◌-◌, ◌<◌, ◌≤◌, min, ◌⊎◌, ◌↔◌, List, [], ◌∷◌, length, Ok, Err, Result}
+use Rattle.std.specs.Prelude.{◌≡◌, ℕ, ◌+◌, ◌-◌, ◌≤◌, min, ◌⊎◌, ◌↔◌, List, [], ◌∷◌, length, Ok, Err, Result}
 use Rattle.std.proofs.Math.Option.{Option, none, some}
 use Rattle.forest.specs.declared.fault.Fault.{Fault}
 use Rattle.rows.specs.Sheet.{Sheet}
@@ -8,7 +8,7 @@ use Rattle.measure.specs.Measure.{Costs}
 use Rattle.law.specs.declared.Declined.{Declined}
 use Rattle.forest.specs.Forest.{Forest}
 use Rattle.judge.specs.Judging.{Lost}
-use Rattle.law.specs.Calls.{Kept, Held, Begun, Lent, Passed, Fails, RecordOf, file_checks, Filing, Filed, Giving, Fetched}
+use Rattle.law.specs.Calls.{Held, Begun, Lent, Passed, Fails, RecordOf, file_checks, Filing, Filed, Giving, Fetched}
 use Rattle.law.specs.Calls.{earlier_checks, sorts_fit, DeclinedForLoss, Proposing, Proposed}
 
 -- A season: a new register, and then any calls.

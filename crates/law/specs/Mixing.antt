@@ -1,9 +1,7 @@
 -- A season may mix kinds of measure: a call made with a measure of one kind is the same call made with it
 -- as one of two kinds together, its told cost as a cost of either kind.
 use Rattle.std.specs.Prelude.{ℕ, Ok, Err, Result}
-use Rattle.measure.specs.declared.either.Either.{Either}
 use Rattle.measure.specs.declared.either.Either.TheVariants.{One, Other}
-use Rattle.measure.specs.declared.either.EitherCost.{EitherCost}
 use Rattle.measure.specs.declared.either.EitherCost.TheVariants.{OfOne, OfOther}
 use Rattle.measure.specs.Measure.{Costs}
 use Rattle.measure.specs.Eithers.{either_costs}
