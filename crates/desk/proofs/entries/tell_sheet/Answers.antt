@@ -10,12 +10,12 @@ refused_sheet : {L : Type 0} (s : Held) (given : Lent L) (body : List ℕ) (n p 
 refused_sheet s given body n p (inl w) =
     let e : refusal 9 0 ≡ refusal n p = ap (λ m. refusal m 0) (sym w.1) ∙ ap (λ q. refusal n q) (sym w.2) in
     subst (λ fs. Outcome s given a_sheet body fs s given) e (no_rows w.0)
-refused_sheet s given body n p (inr w) = not_sound w.are-laid w.is-body w.due
+refused_sheet s given body n p (inr w) = not_sound w.are_laid w.is_body w.due
 
 pub returns-in-Ok : goal.returns-in-Ok
 returns-in-Ok c =
     let s = c.in-Ok.ensures in
-    let t = c.tell-proposal.ensures in
+    let t = c.tell_proposal.ensures in
     record { fields = _; outcome = proposed s.are_laid s.is_body s.passes t.proposed; says = t.says }
 
 pub returns-in-Err : goal.returns-in-Err
