@@ -82,7 +82,7 @@ fn read_tree(body: &[u8], at: usize, nesting: usize) -> Result<usize, Fault>
 
 /// The end of the forest that begins at `at`: at a closing or the end of the body.
 #[cycle(read_forest_read_tree)]
-pub(crate) fn read_forest(body: &[u8], at: usize, nesting: usize) -> Result<usize, Fault>
+pub fn read_forest(body: &[u8], at: usize, nesting: usize) -> Result<usize, Fault>
     requires { (at ≤ length body.now) × (nesting ≤ 64) }
     ensures { MatchResult result (λ e. Stretch nesting body.now at e × Stops body.now e)
         (λ x. Refused (64 - nesting) body.now at x.number x.place) }

@@ -21,7 +21,7 @@ fn holds(labels: &[u16], n: usize, label: u16) -> bool
 }
 
 // Adds the labels that the rows name and that are not among the first n yet, and tells how many there are then.
-pub(crate) fn add_labels(rows: &[Row], labels: &mut [u16], n: usize) -> usize
+pub fn add_labels(rows: &[Row], labels: &mut [u16], n: usize) -> usize
     requires room { n + length rows.now ≤ length labels.old }
     requires labelled { AllLabelled rows.now }
     requires real { Real labels.old n }
@@ -60,7 +60,7 @@ fn add_label(labels: &mut [u16], n: usize, row: Row) -> usize
 }
 
 // A label that is not among the first n.
-pub(crate) fn other_label(labels: &[u16], n: usize) -> u16
+pub fn other_label(labels: &[u16], n: usize) -> u16
     requires { (n ≤ length labels.now) × (n ≤ 256) }
     ensures real { Label result }
     ensures other { Untried labels.now n result }

@@ -12,7 +12,7 @@ use survey::{Leaves, Sorting, Standings};
 
 impl Pair {
     /// The two sheets, with the labels to try for them.
-    pub(crate) fn of(old: &SoundSheet, new: &SoundSheet) -> Pair
+    pub fn of(old: &SoundSheet, new: &SoundSheet) -> Pair
         ensures old { result.old ≡ old.now }
         ensures new { result.new ≡ new.now }
     {

@@ -13,7 +13,7 @@ use super::take::take_row;
 use forest::Fault;
 
 /// Takes the raw rows in one by one, into the front of `rows`; refusals 10 and 11.
-pub(crate) fn take_rows(raws: &[RawRow], rows: &mut [Row]) -> Result<(), Fault>
+pub fn take_rows(raws: &[RawRow], rows: &mut [Row]) -> Result<(), Fault>
     requires { length raws.now ≤ length rows.old }
     ensures { MatchResult result
         (λ _. GoodRows raws.now (take (length raws.now) rows.new))
@@ -62,7 +62,7 @@ fn tally(rows: &[Row], used: &mut [u16])
 }
 
 /// Refusal 12 at the lowest row that is neither a definition nor exactly once a part.
-pub(crate) fn parts_once(rows: &[Row]) -> Result<(), Fault>
+pub fn parts_once(rows: &[Row]) -> Result<(), Fault>
     requires { (((e : ℕ) → PartsFit rows.now e)) × (length rows.now ≤ 128) }
     ensures { MatchResult result
         (λ _. (a : ℕ) → a < length rows.now → OnceAPart rows.now a)
@@ -95,7 +95,7 @@ fn count_definitions(rows: &[Row]) -> usize
 }
 
 /// Refusal 13 at the lowest row that names a missing definition.
-pub(crate) fn contents_there(rows: &[Row]) -> Result<(), Fault>
+pub fn contents_there(rows: &[Row]) -> Result<(), Fault>
     ensures { MatchResult result
         (λ _. (p : ℕ) → p < length rows.now → ContentThere rows.now p)
         (λ f. (f.number ≡ 13) × Lowest (length rows.now) (ContentThere rows.now) f.place) }
@@ -114,8 +114,21 @@ pub(crate) fn contents_there(rows: &[Row]) -> Result<(), Fault>
     Ok(())
 }
 
+/// How many of the rows are places.
+pub fn count_places(rows: &[Row]) -> usize
+    ensures { result ≡ places rows.now }
+{
+    let mut count: usize = 0;
+    for (e, row) in rows.iter().enumerate() {
+        if row.is_place() {
+            count += 1;
+        }
+    }
+    count
+}
+
 /// Numbers the places in row order: each row gets the count of places below it. Refusal 14 at the 65th place.
-pub(crate) fn number_places(rows: &[Row], numbers: &mut [u8]) -> Result<(), Fault>
+pub fn number_places(rows: &[Row], numbers: &mut [u8]) -> Result<(), Fault>
     requires { (length rows.now ≤ 128) × (length numbers.old ≡ 128) }
     ensures { MatchResult result
         (λ _. (places rows.now ≤ 64) × Numbers rows.now numbers.new)

@@ -10,6 +10,7 @@ pub mod row;
 mod rules;
 mod take;
 
+pub use check::count_places;
 pub use checked::CheckedRows;
 pub use raw::RawRow;
 pub use read::{MOST_ROWS, ReadSheet};

@@ -42,6 +42,13 @@ impl ReadSheet {
         let count = fill(body, &mut rows);
         Ok(ReadSheet { rows, count })
     }
+
+    /// How many rows there are.
+    pub fn len(&self) -> usize
+        ensures { result ≡ self.now.count }
+    {
+        self.count
+    }
 }
 
 /// Lays the body's rows into the front of `rows`, and tells how many there are.

@@ -38,7 +38,7 @@ impl Row {
     }
 
     /// Whether the row is a place: a definition or a leaf.
-    pub(crate) fn is_place(&self) -> bool
+    pub fn is_place(&self) -> bool
         ensures { T result ↔ IsPlace self.now }
     {
         match *self {

@@ -21,7 +21,7 @@ fn sits(below: &[Row], part: u8) -> bool
 }
 
 /// The row that four bytes say; refusal 10 where they say none, 11 where a part is not lower or is a definition.
-pub(crate) fn take_row(raw: RawRow, below: &[Row]) -> Result<Row, Fault>
+pub fn take_row(raw: RawRow, below: &[Row]) -> Result<Row, Fault>
     ensures { MatchResult result (Taken raw below.now) (NotTaken raw below.now) }
 {
     let RawRow {

@@ -2,13 +2,14 @@
 
 ghost use Rattle.rows.specs.Checked.{raws_of};
 ghost use Rattle.rows.specs.Checking.{AtMostOne};
+ghost use Rattle.rows.specs.Sheet.{places};
 ghost use Rattle.sheet.specs.Held.{Checking, only_empty, rows_of};
 ghost use Rattle.std.specs.Prelude.{◌≡◌, length};
 
 use super::compile::compile;
 use super::sound::SoundSheet;
 use forest::Fault;
-use rows::{MOST_ROWS, ReadSheet, Row};
+use rows::{MOST_ROWS, ReadSheet, Row, count_places};
 
 impl SoundSheet {
     /// The sheet that admits only the empty forest.
@@ -54,5 +55,12 @@ impl SoundSheet {
         ensures { result ≡ length (rows_of self.now) }
     {
         (&self.rows[0..self.count]).len()
+    }
+
+    /// How many places it has.
+    pub fn places(&self) -> usize
+        ensures { result ≡ places (rows_of self.now) }
+    {
+        count_places(&self.rows[0..self.count])
     }
 }

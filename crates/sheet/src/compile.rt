@@ -110,7 +110,7 @@ fn fill_holders(rows: &[Row], numbers: &[u8], homes: &[u8], holders: &mut [u64])
 }
 
 /// The tables of rows whose places are numbered.
-pub(crate) fn compile(rows: &[Row], numbers: &[u8]) -> Tables
+pub fn compile(rows: &[Row], numbers: &[u8]) -> Tables
     requires { (Ready rows.now numbers.now) × (AllThere rows.now) }
     ensures { Compiled rows.now result }
 {

@@ -45,7 +45,7 @@ fn either(a: Shape, b: Shape) -> Shape
 }
 
 /// The bit of a place.
-pub(crate) fn bit(number: u8) -> u64
+pub fn bit(number: u8) -> u64
     requires { number < 64 }
     ensures { result ≡ 2 ^ number }
 {
@@ -53,7 +53,7 @@ pub(crate) fn bit(number: u8) -> u64
 }
 
 /// The shape of row `e`; for each leaf, the leaves that it can come right after in that row are added to `before`.
-pub(crate) fn expression(rows: &[Row], numbers: &[u8], e: usize, before: &mut [u64]) -> Shape
+pub fn expression(rows: &[Row], numbers: &[u8], e: usize, before: &mut [u64]) -> Shape
     requires { (Ready rows.now numbers.now) × ((e < length rows.now) × (length before.old ≡ 64)) }
     ensures shaped { Shaped rows.now e result }
     ensures grown { Grown rows.now before.old before.new (λ q p. Next rows.now q p e) }

@@ -11,3 +11,5 @@ pub mod shape;
 pub mod sound;
 pub mod standings;
 pub mod tables;
+
+pub use rows::{raw, read, row};

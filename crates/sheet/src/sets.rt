@@ -5,7 +5,7 @@ ghost use Rattle.rows.specs.Parts.{KeptBelow};
 ghost use Rattle.sheet.specs.Standing.{Bit};
 
 /// The union of what the table has for each member of `set`.
-pub(crate) fn gather(table: &[u64], set: u64) -> u64
+pub fn gather(table: &[u64], set: u64) -> u64
     requires { length table.now ≡ 64 }
     ensures { (i : ℕ) → Bit i result ↔ ((j : ℕ) × Bit j set × Bit i (slice_index table.now j)) }
 {
@@ -19,7 +19,7 @@ pub(crate) fn gather(table: &[u64], set: u64) -> u64
 }
 
 /// Adds the members of `from` to what the table has for each member of `to`.
-pub(crate) fn link(table: &mut [u64], from: u64, to: u64)
+pub fn link(table: &mut [u64], from: u64, to: u64)
     requires { length table.old ≡ 64 }
     ensures bound { KeptBelow from table.old table.new }
     ensures bits { (i j : ℕ) → Bit i (slice_index table.new j) ↔ (Bit i (slice_index table.old j) ⊎ (Bit j to × Bit i from)) }
@@ -32,7 +32,7 @@ pub(crate) fn link(table: &mut [u64], from: u64, to: u64)
 }
 
 /// The members of `set` that the table has `label` for.
-pub(crate) fn pick(table: &[u16], set: u64, label: u16) -> u64
+pub fn pick(table: &[u16], set: u64, label: u16) -> u64
     requires { length table.now ≡ 64 }
     ensures { (i : ℕ) → Bit i result ↔ (Bit i set × (slice_index table.now i ≡ label)) }
 {

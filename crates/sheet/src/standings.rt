@@ -19,21 +19,21 @@ impl SoundSheet {
     }
 
     /// The leaves that admit a text.
-    fn text_leaves(&self) -> u64
+    pub fn text_leaves(&self) -> u64
         ensures { (t : List ℕ) → AreLeaves (rows_of self.now) result (a_text t) }
     {
         self.tables.texts
     }
 
     /// The leaves for nodes with the label.
-    fn labelled(&self, label: u16) -> u64
+    pub fn labelled(&self, label: u16) -> u64
         ensures { SetOf (rows_of self.now) result (HasLabel (rows_of self.now) label) }
     {
         self.tables.anys | pick(&self.tables.labels, self.tables.named, label)
     }
 
     /// The leaves for nodes whose content has the standing.
-    fn holding(&self, content: u64) -> u64
+    pub fn holding(&self, content: u64) -> u64
         ensures { (c : Forest) → IsStanding (rows_of self.now) content c
             → SetOf (rows_of self.now) result (HasContent (rows_of self.now) c) }
     {
@@ -65,7 +65,7 @@ impl SoundSheet {
     }
 
     /// The standing of a node with the label and a content of this standing, before a rest of this standing.
-    pub(crate) fn of_node(&self, label: u16, content: u64, rest: u64) -> u64
+    pub fn of_node(&self, label: u16, content: u64, rest: u64) -> u64
         ensures { (c f : Forest) → IsStanding (rows_of self.now) content c
             → IsStanding (rows_of self.now) rest f → IsStanding (rows_of self.now) result (node label c f) }
     {

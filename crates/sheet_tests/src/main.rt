@@ -19,7 +19,8 @@ fn show(rt: &impl Print, body: &[u8]) -> io::Result<()> {
     match hold(&mut held, body) {
         Ok(()) => {
             let rows = held.len();
-            println!(rt; "sound {rows}")
+            let places = held.places();
+            println!(rt; "sound {rows} {places}")
         }
         Err(fault) => {
             let number = fault.number;
