@@ -71,7 +71,8 @@ pub fn parts_once(rows: &[Row]) -> Result<(), Fault>
     let mut used = [0u16; MOST_ROWS];
     tally(rows, &mut used);
     for (a, row) in rows.iter().enumerate() {
-        if used[a] != 1 && !row.is_definition() {
+        let once = used[a] == 1;
+        if !once && !row.is_definition() {
             return Err(Fault {
                 number: 12,
                 place: a,

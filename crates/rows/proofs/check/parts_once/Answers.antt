@@ -6,7 +6,7 @@ use Rattle.rows.proofs.Numbers.{at_get_or}
 use Rattle.rows.proofs.Checks.{definition_row, not_definition}
 use Rattle.rows.proofs.Tallies.{zeros, once_used, used_once}
 use Rattle.rows.proofs.check.parts_once.Goals as goal
-use Rattle.rows.proofs.check.parts_once.Goals.{else-used-a-ne1-via-then-used-a-ne1+else-not-is_definition, else-used-a-ne1-via-else-used-a-ne1}
+use Rattle.rows.proofs.check.parts_once.Goals.{else-not-once-via-then-not-once+else-not-is_definition, else-not-once-via-else-not-once}
 
 pub tally-requires : goal.tally-requires
 tally-requires c = record { by_index = (c.requires.0, (c.requires.1, refl)); by_index_2 = λ a. zeros 128 a }
@@ -19,7 +19,7 @@ returns-then-not-is_definition c =
       record {
         within = c.loop-a-test.true;
         below = c.loop-a.invariant;
-        fails = λ z. c.if-used-a-ne1.true
+        fails = λ z. c.if-not-once.true
             (c.tally.ensures c.loop-a.a
             ∙ used_once s c.loop-a.a (not_definition s c.loop-a.a _ i c.if-not-is_definition.ensures.1) z);
       },
@@ -30,8 +30,8 @@ loop-a-preserved c =
     let s = c.args.rows.now in
     let i = at_get_or s c.loop-a.a empty c.loop-a-test.true in
     below_more (OnceAPart s) c.loop-a.a c.loop-a.invariant
-    (elim c.else-used-a-ne1.branch [
-      | else-used-a-ne1-via-then-used-a-ne1+else-not-is_definition w ↦
+    (elim c.else-not-once.branch [
+      | else-not-once-via-then-not-once+else-not-is_definition w ↦
           let d = definition_row _ (w.if-not-is_definition.ensures.0 tt) in is_definition (i ∙ ap some d.1)
-      | else-used-a-ne1-via-else-used-a-ne1 w ↦ once_used s c.loop-a.a (sym (c.tally.ensures c.loop-a.a) ∙ w.if-used-a-ne1.false)
+      | else-not-once-via-else-not-once w ↦ once_used s c.loop-a.a (sym (c.tally.ensures c.loop-a.a) ∙ w.if-not-once.false)
     ])
