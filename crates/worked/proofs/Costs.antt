@@ -1,8 +1,7 @@
 -- Costs and laws, by computation.
-use Rattle.std.proofs.Common.{◌≡◌, ℕ, ◌+◌, ◌<◌, ◌≤◌, ◌⊎◌, [], ◌∷◌, refl, ap, inl, inr, arith}
+use Rattle.std.proofs.Common.{◌≤◌, [], refl, inl, inr, arith}
 use Rattle.forest.specs.Forest.{Forest, nil, text, node}
-use Rattle.measure.specs.Measure.{Ordered, Rules, Lawful}
-use Rattle.worked.specs.Costs.{Priced, AtCeiling, TextsFirst, All, AtMost, counting, BreaksALaw}
+use Rattle.worked.specs.Costs.{Priced, AtCeiling, TextsFirst, BreaksALaw}
 use Rattle.worked.proofs.Made.{stands_for}
 use Rattle.worked.proofs.Worked.{forest_both}
 

@@ -1,5 +1,5 @@
 -- A test of belonging that computes.
-use Rattle.std.proofs.Common.{◌≡◌, ℕ, zero, suc, ◌+◌, ◌<◌, ◌≤◌, Bool, true, false, ◌&&◌, ◌||◌, T, eqb, ◌⊎◌, ◌↔◌, List, [], ◌∷◌, length, take, sym, refl, ap, ◌∙◌, subst, inl, inr, add-one, arith, eqb→eq}
+use Rattle.std.proofs.Common.{◌≡◌, ℕ, zero, suc, ◌+◌, ◌<◌, Bool, true, false, ◌&&◌, ◌||◌, T, eqb, ◌⊎◌, ◌↔◌, List, length, take, sym, refl, ◌∙◌, subst, inl, inr, add-one, arith, eqb→eq}
 use mathlib.Core.Logic.Iff
 use mathlib.Core.Option.{Option, none, some}
 use native.Mathlib.Decide.{ℕ_discrete}
@@ -8,7 +8,7 @@ use Rattle.forest.specs.Forest.{Forest, nil, text, node}
 use Rattle.rows.specs.declared.row.Row.{Row}
 use Rattle.rows.specs.declared.row.Row.TheVariants.{Empty as empty, Text as one_text, Named as named, Any as any, Seq as seq, Alt as alt, Many as many, Def as def}
 use Rattle.rows.specs.Sheet.{Sheet, at, definitions, Defines, Leaf, leaf_text, leaf_named, leaf_any, Sound}
-use Rattle.sheet.specs.Meaning.{Admits, of_text, Belongs, OfSheet, Stands}
+use Rattle.sheet.specs.Meaning.{of_text, Belongs, OfSheet, Stands}
 use Rattle.sheet.specs.Standing.{a_text, a_node, Reads}
 use Rattle.rows.specs.Steps.{WellFormed}
 use Rattle.sheet.specs.Shapes.{LeadsAt, EndsAt, LeadsBelow, EndsBelow}
@@ -18,7 +18,7 @@ use Rattle.rows.proofs.Numbers.{at_below, defines_once}
 use Rattle.sheet.proofs.Standing.{leaf_fits}
 use Rattle.rows.proofs.Sounding.{well_formed}
 use Rattle.sheet.proofs.Tabling.{Through, through_none, through_more, through_stay}
-use Rattle.sheet.proofs.Stepping.{ends_stands, leads_stands, stands_definition, stands_place, belongs_stands}
+use Rattle.sheet.proofs.Stepping.{ends_stands, leads_stands, stands_definition, belongs_stands}
 
 -- Tests that look at the second only where the first passes.
 abbrev pub and_then : Bool → (Unit {0} → Bool) → Bool

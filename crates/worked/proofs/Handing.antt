@@ -1,8 +1,8 @@
 -- What is handed out of a record, by the bytes that are still to come.
-use Rattle.std.proofs.Common.{◌≡◌, ℕ, List, [], ◌∷◌, ◌++◌, length, take, drop, Some, sym, refl, ap, ◌∙◌, subst, Bor}
+use Rattle.std.proofs.Common.{◌≡◌, ℕ, List, [], ◌∷◌, ◌++◌, length, take, drop, Some, sym, refl, ap, ◌∙◌, Bor}
 use Rattle.std.proofs.lemmas.List.{drop-drop}
 use Rattle.forest.specs.declared.event.Event.TheVariants.{Text}
-use Rattle.forest.specs.Reading.{Token, chars, all_written}
+use Rattle.forest.specs.Reading.{Token, all_written}
 use Rattle.forest.specs.Events.{ToCome, Handed}
 use Rattle.forest.proofs.Walks.{walk_written}
 use Rattle.worked.specs.Handing.{Handing}

@@ -1,15 +1,14 @@
 -- Sorts and losses between worked sheets.
-use Rattle.std.proofs.Common.{◌≡◌, ℕ, zero, suc, ◌+◌, ◌<◌, ◌≤◌, min, Bool, true, false, T, ◌⊎◌, ◌↔◌, List, [], ◌∷◌, ◌++◌, length, replicate, sym, refl, ap, ◌∙◌, subst, inl, inr, arith}
+use Rattle.std.proofs.Common.{◌≡◌, ℕ, zero, suc, ◌<◌, ◌≤◌, T, ◌⊎◌, ◌↔◌, List, [], ◌∷◌, sym, refl, ap, ◌∙◌, subst, inl, inr, arith}
 use Rattle.forest.specs.Forest.{Forest, nil, text, node, join, Proper}
-use Rattle.rows.specs.Sheet.{Sheet, Sound}
 use Rattle.sheet.specs.Meaning.{Admits, of_text, of_named, OfSheet, Stands}
 use Rattle.sheet.proofs.Tests.{nullable, opening, closing, following}
 use Rattle.rows.proofs.Sounding.{well_formed}
 use Rattle.measure.specs.Measure.{cost_of}
-use Rattle.measure.specs.Lengths.{length_rules, length_costs}
-use Rattle.judge.specs.Judging.{SameStanding, OneSort, MoreSorts, Lost, AllKept, Told}
-use Rattle.worked.specs.Examples.{IsSheet, only_empty, one_text, endless, S1, S2, r, both}
-use Rattle.worked.specs.Judgements.{Between, Judgements}
+use Rattle.measure.specs.Lengths.{length_rules}
+use Rattle.judge.specs.Judging.{SameStanding, OneSort, MoreSorts, Lost}
+use Rattle.worked.specs.Examples.{IsSheet, only_empty, one_text, S1, S2, r}
+use Rattle.worked.specs.Judgements.{Judgements}
 use Rattle.worked.proofs.Evaluate.{stands?, stands_iff, in_sheet, out_of_sheet}
 use Rattle.worked.proofs.Made.{made_sheet, made_record, stands_for}
 use Rattle.worked.proofs.Worked.{sheet_only_empty, sheet_one_text, sheet_endless, sheet_S1, sheet_S2, forest_r, forest_both}

@@ -1,5 +1,5 @@
 -- Fronts of inputs by their rules, and lines by computation.
-use Rattle.std.proofs.Common.{◌≡◌, ℕ, ◌<◌, List, [], ◌∷◌, ◌++◌, replicate, refl, arith}
+use Rattle.std.proofs.Common.{◌≡◌, ℕ, [], ◌∷◌, replicate, refl, arith}
 use Rattle.std.specs.Fmt.{digits}
 use Rattle.stream.specs.Stream.{Kind, a_sheet, a_record, Mark, nothing, whole, in_mark, in_length, in_body, no_mark}
 use Rattle.worked.specs.Lines.{Fronts, Lines}

@@ -1,11 +1,11 @@
 -- Sheets, records and standings from tests that compute.
-use Rattle.std.proofs.Common.{◌≡◌, ℕ, zero, suc, ◌+◌, ◌*◌, ◌/◌, ◌%◌, ◌<◌, ◌≤◌, Bool, true, false, ◌&&◌, ◌||◌, T, eqb, ltb, leb, ◌⊎◌, ◌↔◌, List, [], ◌∷◌, map, length, take, sym, refl, ap, ◌∙◌, subst, inl, inr, arith, ltb→lt, leb→le}
+use Rattle.std.proofs.Common.{◌≡◌, ℕ, suc, ◌+◌, ◌*◌, ◌/◌, ◌%◌, ◌<◌, ◌≤◌, Bool, true, false, ◌&&◌, ◌||◌, T, eqb, ltb, leb, ◌⊎◌, ◌↔◌, List, [], ◌∷◌, length, take, sym, refl, subst, inl, inr, arith, ltb→lt, leb→le}
 use mathlib.Core.Option.{some}
 use Rattle.forest.specs.Forest.{Forest, nil, text, node, Label, Bytes, Proper, Record, bytes_of, depth}
 use Rattle.forest.specs.Reading.{StandsFor}
 use Rattle.rows.specs.declared.row.Row.{Row}
 use Rattle.rows.specs.declared.row.Row.TheVariants.{Empty as empty, Text as one_text, Named as named, Any as any, Seq as seq, Alt as alt, Many as many, Def as def}
-use Rattle.rows.specs.Sheet.{Sheet, at, definitions, Sound, Defines}
+use Rattle.rows.specs.Sheet.{Sheet, at, definitions, Sound}
 use Rattle.rows.specs.declared.raw.RawRow.{RawRow}
 use Rattle.rows.specs.Raw.{Body, laid, Says, says_empty, says_text, says_named, says_any, says_seq, says_alt, says_many, says_def, RowSays, AllSay, none_say, one_says}
 use Rattle.sheet.specs.Meaning.{Stands}

@@ -1,6 +1,5 @@
 -- The refusals, by tests that compute.
-use Rattle.std.proofs.Common.{◌≡◌, ℕ, zero, suc, ◌+◌, ◌-◌, ◌%◌, ◌<◌, ◌≤◌, Bool, true, false, ◌&&◌, ◌||◌, T, eqb, ltb, leb, ◌⊎◌, List, [], ◌∷◌, ◌++◌, length, take, replicate, sym, refl, ap, ◌∙◌, subst, inl, inr, arith, le→leb, eqb→eq, ltb→lt, lt→ltb, leb→le}
-use mathlib.Core.Option.{Option, none, some}
+use Rattle.std.proofs.Common.{◌≡◌, ℕ, zero, suc, ◌+◌, ◌-◌, ◌%◌, ◌<◌, Bool, true, false, ◌&&◌, ◌||◌, T, eqb, ltb, leb, List, [], ◌∷◌, ◌++◌, length, take, replicate, sym, refl, ap, ◌∙◌, subst, arith, le→leb, eqb→eq, ltb→lt, lt→ltb, leb→le}
 use lib.Dec.{eqb_refl}
 use Rattle.forest.specs.Forest.{Forest, nil, text, node, Bytes, Proper, bytes_of}
 use Rattle.forest.specs.Reading as reading
@@ -10,15 +9,14 @@ use Rattle.rows.specs.declared.row.Row.{Row}
 use Rattle.rows.specs.declared.row.Row.TheVariants.{Empty as empty, Text as one_text, Named as named, Any as any, Seq as seq, Alt as alt, Many as many, Def as def}
 use Rattle.rows.specs.Sheet.{Sheet, at, definitions, places, Place, Names, first, second, seq_second, many_part, by_named, by_any, a_leaf, a_definition, leaf_text}
 use Rattle.rows.specs.declared.raw.RawRow.{RawRow}
-use Rattle.rows.specs.Raw.{Body, laid, Says, RowSays, AllSay}
+use Rattle.rows.specs.Raw.{Body, laid, AllSay}
 use Rattle.rows.specs.Parts.{uses}
-use Rattle.rows.specs.Checking as checking
-use Rattle.rows.specs.Checking.{PartsFit, OnceAPart, ContentThere, GoodFront, WrongOverAll, not_once, not_there, too_many, says_nothing, parts_astray, over_all}
+use Rattle.rows.specs.Checking.{PartsFit, GoodFront, WrongOverAll, not_once, not_there, too_many, says_nothing, parts_astray, over_all}
 use Rattle.rows.proofs.Fronts.{say_last, say_push}
 use Rattle.rows.proofs.Tallies.{used_once}
 use Rattle.rows.proofs.Taking.{Unsaid, unsaid}
 use Rattle.worked.specs.Refusals.{JustRead, ReadingRefused, SheetRefused, no_rows, bad_rows, SheetsRefused, nodes, beside, longest, joined_texts, NotSound}
-use Rattle.worked.proofs.Sounds.{both, all_below, sound?, shape?, once?, all_once?, content?, all_there?, plain?, not_plain, front?, fronted, sized, once_below, there_below, all_there}
+use Rattle.worked.proofs.Sounds.{both, all_below, shape?, once?, all_once?, content?, all_there?, plain?, not_plain, front?, fronted, sized, once_below, there_below, all_there}
 use Rattle.worked.proofs.Made.{true_is, bytes?, are_bytes, made_record, stands_for, raw_of, raws_of, Labelled, row_says, all_say, is_body, made_sheet}
 
 -- Reading.

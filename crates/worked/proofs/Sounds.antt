@@ -1,11 +1,11 @@
 -- A test of soundness that computes.
-use Rattle.std.proofs.Common.{◌≡◌, ℕ, zero, suc, ◌+◌, ◌<◌, ◌≤◌, Bool, true, false, ◌&&◌, ◌||◌, T, eqb, ltb, leb, ◌⊎◌, ◌↔◌, List, [], ◌∷◌, length, sym, refl, ap, ◌∙◌, subst, inl, inr, arith, eqb→eq, ltb→lt, leb→le}
+use Rattle.std.proofs.Common.{◌≡◌, ℕ, zero, suc, ◌<◌, ◌≤◌, Bool, true, false, ◌&&◌, T, eqb, ltb, leb, [], ◌∷◌, length, sym, refl, subst, inl, inr, arith, eqb→eq, ltb→lt, leb→le}
 use mathlib.Core.Option.{Option, none, some}
 use native.Mathlib.Decide.{ℕ_discrete}
 use Rattle.forest.specs.Forest.{Label}
 use Rattle.rows.specs.declared.row.Row.{Row}
 use Rattle.rows.specs.declared.row.Row.TheVariants.{Empty as empty, Text as one_text, Named as named, Any as any, Seq as seq, Alt as alt, Many as many, Def as def}
-use Rattle.rows.specs.Sheet.{Sheet, at, definitions, Part, Side, first, second, places, Sound, Names}
+use Rattle.rows.specs.Sheet.{Sheet, at, definitions, Side, places, Sound}
 use Rattle.rows.specs.Parts.{uses}
 use Rattle.rows.specs.Checking.{PartsFit, OnceAPart, is_definition, ContentThere}
 use Rattle.rows.proofs.Fronts.{PartRow, part_row, part_below}

@@ -1,5 +1,5 @@
 -- Sorts of forests, and what is lost, between sheets of the worked examples.
-use Rattle.std.specs.Prelude.{◌≡◌, ℕ, Bool, true, false, List, [], ◌∷◌, ◌++◌, replicate}
+use Rattle.std.specs.Prelude.{ℕ, true, false, List, [], ◌∷◌, ◌++◌, replicate}
 use Rattle.forest.specs.Forest.{Forest}
 use Rattle.forest.specs.Reading.{StandsFor}
 use Rattle.rows.specs.Sheet.{Sheet}

@@ -1,4 +1,4 @@
-use Rattle.std.proofs.Common.{◌≡◌, take, sym, ap, ◌∙◌, arith}
+use Rattle.std.proofs.Common.{ap, ◌∙◌, arith}
 use Rattle.rows.specs.Sheet.{places, empty}
 use Rattle.rows.proofs.Checks.{place_more, place_same}
 use Rattle.std.proofs.lemmas.List.{take_all}

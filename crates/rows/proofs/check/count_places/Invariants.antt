@@ -1,4 +1,4 @@
-use Rattle.std.proofs.Common.{◌≡◌, ℕ, ◌≤◌, take}
+use Rattle.std.proofs.Common.{◌≡◌, ◌≤◌, take}
 use Rattle.rows.specs.Sheet.{places}
 use Rattle.rows.proofs.check.count_places.Given as goal
 
