@@ -2,22 +2,33 @@
 
 #![tactic(auto)]
 
+ghost use Rattle.std.specs.Prelude.{◌≡◌, true, IfOk};
+
 #[cfg(test)]
 mod tests {
     use forest::{Event, Record};
-    use std::process::Abort;
     use std::test::Fail;
 
+    // Whether a test goes on.
+    fn check(holds: bool) -> Result<(), Fail>
+        ensures { IfOk result (λ _. holds ≡ true) }
+    {
+        if holds {
+            Ok(())
+        } else {
+            Err(Fail::new("a check does not hold"))
+        }
+    }
+
     // The body is refused with this number and place.
-    fn refused(rt: &impl Abort, body: &[u8], number: u8, place: usize) -> Result<(), Fail> {
+    fn refused(body: &[u8], number: u8, place: usize) -> Result<(), Fail> {
         let mut record = Record::empty();
         match record.read(body) {
             Ok(()) => Err(Fail::new("the body was read")),
             Err(fault) => {
-                assert_eq!(rt; fault.number, number);
-                assert_eq!(rt; fault.place, place);
-                assert!(rt; record.events().next().is_none());
-                Ok(())
+                check(fault.number == number)?;
+                check(fault.place == place)?;
+                check(record.events().next().is_none())
             }
         }
     }
@@ -35,35 +46,30 @@ mod tests {
     }
 
     // The body is read, and hands out this many events.
-    fn read(rt: &impl Abort, body: &[u8], count: usize) -> Result<(), Fail> {
+    fn read(body: &[u8], count: usize) -> Result<(), Fail> {
         let mut record = Record::empty();
         match record.read(body) {
             Err(_) => Err(Fail::new("the body was refused")),
-            Ok(()) => {
-                assert_eq!(rt; events(&record, body.len()), count);
-                Ok(())
-            },
+            Ok(()) => { check(events(&record, body.len()) == count) },
         }
     }
 
     #[test]
-    fn bodies_that_are_records(rt: HostRuntime) -> Result<(), Fail> {
-        read(&rt, &[], 0)?;
-        read(&rt, &[0x03, 0x00], 1)?;
-        read(&rt, &[0x03, 0x00, 0x03, 0x00], 2)?;
-        read(&rt, &[0x03, 0x01, 0x02], 1)?;
-        read(&rt, &[0x01, 0x00, 0x01, 0x02], 2)?;
-        read(&rt, &[0x01, 0x00, 0x0b, 0x02], 2)?;
-        read(&rt, &[0x01, 0xff, 0xff, 0x02, 0x01, 0x01, 0x00, 0x02], 4)?;
+    fn bodies_that_are_records() -> Result<(), Fail> {
+        read(&[], 0)?;
+        read(&[0x03, 0x00], 1)?;
+        read(&[0x03, 0x00, 0x03, 0x00], 2)?;
+        read(&[0x03, 0x01, 0x02], 1)?;
+        read(&[0x01, 0x00, 0x01, 0x02], 2)?;
+        read(&[0x01, 0x00, 0x0b, 0x02], 2)?;
+        read(&[0x01, 0xff, 0xff, 0x02, 0x01, 0x01, 0x00, 0x02], 4)?;
         read(
-            &rt,
             &[
                 0x01, 0x00, 0x0a, 0x01, 0x00, 0x0b, 0x03, 0x01, 0x4e, 0x02, 0x02,
             ],
             5,
         )?;
         read(
-            &rt,
             &[
                 0x01, 0x00, 0x0a, 0x01, 0x00, 0x0b, 0x03, 0x00, 0x02, 0x01, 0x00, 0x0c, 0x03, 0x00,
                 0x02, 0x02,
@@ -73,43 +79,43 @@ mod tests {
     }
 
     #[test]
-    fn cut_short(rt: HostRuntime) -> Result<(), Fail> {
-        refused(&rt, &[0x01], 4, 0)?;
-        refused(&rt, &[0x01, 0x00], 4, 0)?;
-        refused(&rt, &[0x01, 0x05], 4, 0)?;
-        refused(&rt, &[0x03], 4, 0)?;
-        refused(&rt, &[0x03, 0x01], 4, 0)?;
-        refused(&rt, &[0x03, 0x02, 0x41], 4, 0)?;
-        refused(&rt, &[0x03, 0x00, 0x03, 0x01], 4, 2)?;
-        refused(&rt, &[0x01, 0x00, 0x01, 0x01, 0x00], 4, 3)?;
-        refused(&rt, &[0x01, 0x00, 0x01, 0x03, 0xff, 0x02], 4, 3)
+    fn cut_short() -> Result<(), Fail> {
+        refused(&[0x01], 4, 0)?;
+        refused(&[0x01, 0x00], 4, 0)?;
+        refused(&[0x01, 0x05], 4, 0)?;
+        refused(&[0x03], 4, 0)?;
+        refused(&[0x03, 0x01], 4, 0)?;
+        refused(&[0x03, 0x02, 0x41], 4, 0)?;
+        refused(&[0x03, 0x00, 0x03, 0x01], 4, 2)?;
+        refused(&[0x01, 0x00, 0x01, 0x01, 0x00], 4, 3)?;
+        refused(&[0x01, 0x00, 0x01, 0x03, 0xff, 0x02], 4, 3)
     }
 
     #[test]
-    fn no_mark(rt: HostRuntime) -> Result<(), Fail> {
-        refused(&rt, &[0x00], 5, 0)?;
-        refused(&rt, &[0x04, 0x00], 5, 0)?;
-        refused(&rt, &[0x03, 0x00, 0xff], 5, 2)?;
-        refused(&rt, &[0x01, 0x00, 0x01, 0x00], 5, 3)?;
-        refused(&rt, &[0x01, 0x00, 0x01, 0x02, 0x10], 5, 4)
+    fn no_mark() -> Result<(), Fail> {
+        refused(&[0x00], 5, 0)?;
+        refused(&[0x04, 0x00], 5, 0)?;
+        refused(&[0x03, 0x00, 0xff], 5, 2)?;
+        refused(&[0x01, 0x00, 0x01, 0x00], 5, 3)?;
+        refused(&[0x01, 0x00, 0x01, 0x02, 0x10], 5, 4)
     }
 
     #[test]
-    fn label_zero(rt: HostRuntime) -> Result<(), Fail> {
-        refused(&rt, &[0x01, 0x00, 0x00], 6, 0)?;
-        refused(&rt, &[0x01, 0x00, 0x00, 0x02], 6, 0)?;
-        refused(&rt, &[0x03, 0x00, 0x01, 0x00, 0x00, 0x02], 6, 2)?;
-        refused(&rt, &[0x01, 0x00, 0x01, 0x01, 0x00, 0x00, 0x02, 0x02], 6, 3)
+    fn label_zero() -> Result<(), Fail> {
+        refused(&[0x01, 0x00, 0x00], 6, 0)?;
+        refused(&[0x01, 0x00, 0x00, 0x02], 6, 0)?;
+        refused(&[0x03, 0x00, 0x01, 0x00, 0x00, 0x02], 6, 2)?;
+        refused(&[0x01, 0x00, 0x01, 0x01, 0x00, 0x00, 0x02, 0x02], 6, 3)
     }
 
     #[test]
-    fn closings(rt: HostRuntime) -> Result<(), Fail> {
-        refused(&rt, &[0x02], 7, 0)?;
-        refused(&rt, &[0x03, 0x00, 0x02], 7, 2)?;
-        refused(&rt, &[0x01, 0x00, 0x01, 0x02, 0x02], 7, 4)?;
-        refused(&rt, &[0x01, 0x00, 0x01], 7, 3)?;
-        refused(&rt, &[0x01, 0x00, 0x01, 0x03, 0x00], 7, 5)?;
-        refused(&rt, &[0x01, 0x00, 0x01, 0x01, 0x00, 0x02, 0x02], 7, 7)
+    fn closings() -> Result<(), Fail> {
+        refused(&[0x02], 7, 0)?;
+        refused(&[0x03, 0x00, 0x02], 7, 2)?;
+        refused(&[0x01, 0x00, 0x01, 0x02, 0x02], 7, 4)?;
+        refused(&[0x01, 0x00, 0x01], 7, 3)?;
+        refused(&[0x01, 0x00, 0x01, 0x03, 0x00], 7, 5)?;
+        refused(&[0x01, 0x00, 0x01, 0x01, 0x00, 0x02, 0x02], 7, 7)
     }
 
     // `deep` nodes one inside the other, closed again or left open.
@@ -127,19 +133,19 @@ mod tests {
     }
 
     #[test]
-    fn nesting(rt: HostRuntime) -> Result<(), Fail> {
+    fn nesting() -> Result<(), Fail> {
         let mut body = [0; 260];
         nest(&mut body, 64, true);
-        read(&rt, &body[0..256], 128)?;
-        refused(&rt, &body[0..255], 7, 255)?;
+        read(&body[0..256], 128)?;
+        refused(&body[0..255], 7, 255)?;
         nest(&mut body, 65, true);
-        refused(&rt, &body[0..260], 8, 192)?;
-        refused(&rt, &body[0..195], 8, 192)?;
-        refused(&rt, &body[0..194], 4, 192)?;
-        refused(&rt, &body[0..193], 4, 192)?;
-        refused(&rt, &body[0..192], 7, 192)?;
+        refused(&body[0..260], 8, 192)?;
+        refused(&body[0..195], 8, 192)?;
+        refused(&body[0..194], 4, 192)?;
+        refused(&body[0..193], 4, 192)?;
+        refused(&body[0..192], 7, 192)?;
         body[194] = 0x00;
-        refused(&rt, &body[0..260], 6, 192)
+        refused(&body[0..260], 6, 192)
     }
 
     // Empty texts side by side.
@@ -150,13 +156,13 @@ mod tests {
     }
 
     #[test]
-    fn length(rt: HostRuntime) -> Result<(), Fail> {
+    fn length() -> Result<(), Fail> {
         let body = [0x03; 4097];
-        refused(&rt, &body, 3, 0)?;
+        refused(&body, 3, 0)?;
         let mut texts = [0x00; 4096];
         fill(&mut texts);
-        read(&rt, &texts, 2048)?;
-        refused(&rt, &texts[0..4095], 4, 4094)
+        read(&texts, 2048)?;
+        refused(&texts[0..4095], 4, 4094)
     }
 
     #[test]

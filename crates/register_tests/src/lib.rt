@@ -2,6 +2,8 @@
 
 #![tactic(auto)]
 
+ghost use Rattle.std.specs.Prelude.{◌≡◌, true, IfOk};
+
 #[cfg(test)]
 mod tests {
     use law::Declined;
@@ -10,7 +12,6 @@ mod tests {
     use rows::{ReadSheet, Row};
     use sheet::sound::SoundSheet;
     use std::alloc::Global;
-    use std::process::Abort;
     use std::test::Fail;
     use survey::{First, Sort, Standings};
 
@@ -20,6 +21,17 @@ mod tests {
     const TEXT: [u8; 8] = [1, 0, 0, 0, 7, 0, 0, 0];
 
     const TEXTS: [u8; 12] = [1, 0, 0, 0, 6, 0, 0, 0, 7, 1, 0, 0];
+
+    // Whether a test goes on.
+    fn check(holds: bool) -> Result<(), Fail>
+        ensures { IfOk result (λ _. holds ≡ true) }
+    {
+        if holds {
+            Ok(())
+        } else {
+            Err(Fail::new("a check does not hold"))
+        }
+    }
 
     fn new_register(heap: Global, rows: usize, bytes: usize) -> Result<Register, Fail> {
         Ok(Register::new(
@@ -42,7 +54,6 @@ mod tests {
 
     // Proposes the sheet, with a list of so many elements.
     fn propose(
-        rt: &impl Abort,
         register: &mut Register,
         body: &[u8],
         sorts: usize,
@@ -57,81 +68,52 @@ mod tests {
             rest: 0,
         }; 32];
         let mut show = [0; 4];
-        assert!(rt; sorts <= 32);
+        check(sorts <= 32)?;
         Ok(register.propose(&sheet, &Length, &mut list[0..sorts], &mut show))
     }
 
-    fn becomes(
-        rt: &impl Abort,
-        register: &mut Register,
-        body: &[u8],
-        edition: usize,
-    ) -> Result<(), Fail> {
-        match propose(rt, register, body, 32)? {
-            Ok(number) => {
-                assert_eq!(rt; number, edition);
-                Ok(())
-            },
+    fn becomes(register: &mut Register, body: &[u8], edition: usize) -> Result<(), Fail> {
+        match propose(register, body, 32)? {
+            Ok(number) => { check(number == edition) },
             Err(_) => Err(Fail::new("the proposal was declined")),
         }
     }
 
     fn declined(
-        rt: &impl Abort,
         register: &mut Register,
         body: &[u8],
         sorts: usize,
         number: u8,
     ) -> Result<(), Fail> {
-        match propose(rt, register, body, sorts)? {
+        match propose(register, body, sorts)? {
             Ok(_) => Err(Fail::new("the proposal was accepted")),
             Err(Declined::Refused(fault)) => {
-                assert_eq!(rt; fault.number, number);
-                assert_eq!(rt; fault.place, 0);
-                Ok(())
+                check(fault.number == number)?;
+                check(fault.place == 0)
             }
-            Err(Declined::Loses { .. }) => {
-                assert_eq!(rt; 36, number);
-                Ok(())
-            },
+            Err(Declined::Loses { .. }) => { check(36 == number) },
         }
     }
 
-    fn kept(
-        rt: &impl Abort,
-        register: &mut Register,
-        body: &[u8],
-        record: usize,
-    ) -> Result<(), Fail> {
+    fn kept(register: &mut Register, body: &[u8], record: usize) -> Result<(), Fail> {
         match register.file(body) {
-            Ok(number) => {
-                assert_eq!(rt; number, record);
-                Ok(())
-            },
+            Ok(number) => { check(number == record) },
             Err(_) => Err(Fail::new("the record was refused")),
         }
     }
 
-    fn refused(
-        rt: &impl Abort,
-        register: &mut Register,
-        body: &[u8],
-        number: u8,
-        place: usize,
-    ) -> Result<(), Fail> {
+    fn refused(register: &mut Register, body: &[u8], number: u8, place: usize) -> Result<(), Fail> {
         match register.file(body) {
             Ok(_) => Err(Fail::new("the record was kept")),
             Err(fault) => {
-                assert_eq!(rt; fault.number, number);
-                assert_eq!(rt; fault.place, place);
-                Ok(())
+                check(fault.number == number)?;
+                check(fault.place == place)
             }
         }
     }
 
     // Fetches into a buffer of so many bytes: the record, and the rest of the buffer as it was.
     fn fetched(
-        rt: &impl Abort,
         register: &Register,
         number: usize,
         room: usize,
@@ -143,34 +125,26 @@ mod tests {
         for (to, from) in expected.iter_mut().zip(body) {
             *to = *from;
         }
-        assert!(rt; room <= 8);
+        check(room <= 8)?;
         match register.fetch(number, &mut buffer[0..room]) {
             Ok(told) => {
-                assert_eq!(rt; told.0, body.len());
-                assert_eq!(rt; told.1, edition);
-                assert!(rt; buffer == expected);
-                Ok(())
+                check(told.0 == body.len())?;
+                check(told.1 == edition)?;
+                check(buffer == expected)
             }
             Err(_) => Err(Fail::new("the record was not given")),
         }
     }
 
-    fn unfetched(
-        rt: &impl Abort,
-        register: &Register,
-        number: usize,
-        room: usize,
-        refusal: u8,
-    ) -> Result<(), Fail> {
+    fn unfetched(register: &Register, number: usize, room: usize, refusal: u8) -> Result<(), Fail> {
         let mut buffer = [0xaa; 8];
-        assert!(rt; room <= 8);
+        check(room <= 8)?;
         match register.fetch(number, &mut buffer[0..room]) {
             Ok(_) => Err(Fail::new("a record was given")),
             Err(fault) => {
-                assert_eq!(rt; fault.number, refusal);
-                assert_eq!(rt; fault.place, 0);
-                assert!(rt; buffer == [0xaa; 8]);
-                Ok(())
+                check(fault.number == refusal)?;
+                check(fault.place == 0)?;
+                check(buffer == [0xaa; 8])
             }
         }
     }
@@ -178,11 +152,11 @@ mod tests {
     #[test]
     fn no_memory(rt: HostRuntime) -> Result<(), Fail> {
         let mut register = new_register(rt.alloc(), 0, 0)?;
-        refused(&rt, &mut register, &[], 31, 0)?;
-        declined(&rt, &mut register, &EMPTY, 0, 20)?;
-        declined(&rt, &mut register, &EMPTY, 32, 30)?;
-        unfetched(&rt, &register, 0, 8, 34)?;
-        unfetched(&rt, &register, 1, 8, 34)
+        refused(&mut register, &[], 31, 0)?;
+        declined(&mut register, &EMPTY, 0, 20)?;
+        declined(&mut register, &EMPTY, 32, 30)?;
+        unfetched(&register, 0, 8, 34)?;
+        unfetched(&register, 1, 8, 34)
     }
 
     // Sixteen editions, and rows left for one more.
@@ -190,73 +164,73 @@ mod tests {
     fn sixteen_editions(rt: HostRuntime) -> Result<(), Fail> {
         let mut register = new_register(rt.alloc(), 34, 0)?;
         for k in 1..17 {
-            becomes(&rt, &mut register, &EMPTY, k)?;
+            becomes(&mut register, &EMPTY, k)?;
         }
-        declined(&rt, &mut register, &EMPTY, 0, 20)?;
-        declined(&rt, &mut register, &EMPTY, 32, 30)?;
-        kept(&rt, &mut register, &[], 1)?;
-        fetched(&rt, &register, 1, 0, &[], 16)
+        declined(&mut register, &EMPTY, 0, 20)?;
+        declined(&mut register, &EMPTY, 32, 30)?;
+        kept(&mut register, &[], 1)?;
+        fetched(&register, 1, 0, &[], 16)
     }
 
     #[test]
     fn rows_run_out(rt: HostRuntime) -> Result<(), Fail> {
         let mut exact = new_register(rt.alloc(), 4, 0)?;
-        becomes(&rt, &mut exact, &EMPTY, 1)?;
-        becomes(&rt, &mut exact, &EMPTY, 2)?;
-        declined(&rt, &mut exact, &EMPTY, 32, 30)?;
+        becomes(&mut exact, &EMPTY, 1)?;
+        becomes(&mut exact, &EMPTY, 2)?;
+        declined(&mut exact, &EMPTY, 32, 30)?;
         let mut short = new_register(rt.alloc(), 3, 0)?;
-        becomes(&rt, &mut short, &EMPTY, 1)?;
-        declined(&rt, &mut short, &EMPTY, 32, 30)?;
-        kept(&rt, &mut short, &[], 1)
+        becomes(&mut short, &EMPTY, 1)?;
+        declined(&mut short, &EMPTY, 32, 30)?;
+        kept(&mut short, &[], 1)
     }
 
     // Empty records take no bytes, but count.
     #[test]
     fn many_records(rt: HostRuntime) -> Result<(), Fail> {
         let mut register = new_register(rt.alloc(), 2, 0)?;
-        becomes(&rt, &mut register, &EMPTY, 1)?;
+        becomes(&mut register, &EMPTY, 1)?;
         for k in 1..257 {
-            kept(&rt, &mut register, &[], k)?;
+            kept(&mut register, &[], k)?;
         }
-        refused(&rt, &mut register, &[], 33, 0)?;
-        fetched(&rt, &register, 256, 3, &[], 1)?;
-        unfetched(&rt, &register, 257, 8, 34)
+        refused(&mut register, &[], 33, 0)?;
+        fetched(&register, 256, 3, &[], 1)?;
+        unfetched(&register, 257, 8, 34)
     }
 
     #[test]
     fn bytes_run_out(rt: HostRuntime) -> Result<(), Fail> {
         let mut register = new_register(rt.alloc(), 3, 5)?;
-        becomes(&rt, &mut register, &TEXTS, 1)?;
-        kept(&rt, &mut register, &[3, 1, 7], 1)?;
-        refused(&rt, &mut register, &[3, 1, 8], 33, 0)?;
-        kept(&rt, &mut register, &[3, 0], 2)?;
-        refused(&rt, &mut register, &[3, 0], 33, 0)?;
-        kept(&rt, &mut register, &[], 3)?;
-        fetched(&rt, &register, 1, 3, &[3, 1, 7], 1)?;
-        fetched(&rt, &register, 2, 8, &[3, 0], 1)?;
-        fetched(&rt, &register, 3, 0, &[], 1)
+        becomes(&mut register, &TEXTS, 1)?;
+        kept(&mut register, &[3, 1, 7], 1)?;
+        refused(&mut register, &[3, 1, 8], 33, 0)?;
+        kept(&mut register, &[3, 0], 2)?;
+        refused(&mut register, &[3, 0], 33, 0)?;
+        kept(&mut register, &[], 3)?;
+        fetched(&register, 1, 3, &[3, 1, 7], 1)?;
+        fetched(&register, 2, 8, &[3, 0], 1)?;
+        fetched(&register, 3, 0, &[], 1)
     }
 
     // Refusals between accepted calls leave what was accepted.
     #[test]
     fn refused_between(rt: HostRuntime) -> Result<(), Fail> {
         let mut register = new_register(rt.alloc(), 9, 8)?;
-        refused(&rt, &mut register, &[], 31, 0)?;
-        becomes(&rt, &mut register, &EMPTY, 1)?;
-        kept(&rt, &mut register, &[], 1)?;
-        refused(&rt, &mut register, &[3, 0], 32, 0)?;
-        refused(&rt, &mut register, &[3, 0, 3], 4, 2)?;
-        declined(&rt, &mut register, &TEXT, 32, 36)?;
-        declined(&rt, &mut register, &TEXTS, 1, 21)?;
-        becomes(&rt, &mut register, &TEXTS, 2)?;
-        kept(&rt, &mut register, &[3, 1, 9, 3, 0], 2)?;
-        declined(&rt, &mut register, &EMPTY, 32, 36)?;
-        unfetched(&rt, &register, 0, 8, 34)?;
-        unfetched(&rt, &register, 3, 8, 34)?;
-        unfetched(&rt, &register, 2, 4, 35)?;
-        fetched(&rt, &register, 2, 5, &[3, 1, 9, 3, 0], 2)?;
-        fetched(&rt, &register, 1, 0, &[], 1)?;
-        kept(&rt, &mut register, &[3, 1, 1], 3)?;
-        fetched(&rt, &register, 2, 6, &[3, 1, 9, 3, 0], 2)
+        refused(&mut register, &[], 31, 0)?;
+        becomes(&mut register, &EMPTY, 1)?;
+        kept(&mut register, &[], 1)?;
+        refused(&mut register, &[3, 0], 32, 0)?;
+        refused(&mut register, &[3, 0, 3], 4, 2)?;
+        declined(&mut register, &TEXT, 32, 36)?;
+        declined(&mut register, &TEXTS, 1, 21)?;
+        becomes(&mut register, &TEXTS, 2)?;
+        kept(&mut register, &[3, 1, 9, 3, 0], 2)?;
+        declined(&mut register, &EMPTY, 32, 36)?;
+        unfetched(&register, 0, 8, 34)?;
+        unfetched(&register, 3, 8, 34)?;
+        unfetched(&register, 2, 4, 35)?;
+        fetched(&register, 2, 5, &[3, 1, 9, 3, 0], 2)?;
+        fetched(&register, 1, 0, &[], 1)?;
+        kept(&mut register, &[3, 1, 1], 3)?;
+        fetched(&register, 2, 6, &[3, 1, 9, 3, 0], 2)
     }
 }

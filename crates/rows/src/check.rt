@@ -36,8 +36,8 @@ fn mark(used: &mut [u16], part: u8)
 
 /// Adds the parts of one row to the tally.
 fn tally_row(row: Row, used: &mut [u16])
-    requires parts_below { PartsBelow row (length used.old) }
-    requires by_index { (a : ℕ) → slice_index used.old a ≤ 256 }
+    requires below { PartsBelow row (length used.old) }
+    requires few { (a : ℕ) → slice_index used.old a ≤ 256 }
     ensures { (a : ℕ) → slice_index used.new a ≡ slice_index used.old a + hits a (some row) }
 {
     match row {
@@ -52,8 +52,8 @@ fn tally_row(row: Row, used: &mut [u16])
 
 /// How often each row is a part.
 fn tally(rows: &[Row], used: &mut [u16])
-    requires by_index { (((e : ℕ) → PartsFit rows.now e)) × ((length rows.now ≤ 128) × (length used.old ≡ 128)) }
-    requires by_index_2 { (a : ℕ) → slice_index used.old a ≡ 0 }
+    requires fitting { (((e : ℕ) → PartsFit rows.now e)) × ((length rows.now ≤ 128) × (length used.old ≡ 128)) }
+    requires unused { (a : ℕ) → slice_index used.old a ≡ 0 }
     ensures { (a : ℕ) → slice_index used.new a ≡ uses rows.now (length rows.now) a }
 {
     for (e, row) in rows.iter().enumerate() {

@@ -3,7 +3,7 @@
 #![tactic(auto)]
 
 use forest::Fault;
-use rows::ReadSheet;
+use sheet::read::ReadSheet;
 use sheet::sound::SoundSheet;
 use std::io;
 

@@ -121,7 +121,7 @@ pub record Standings : Type 0 where
   pub n1_n2_over_in_a_row : StandsExactly in_a_row n1_n2 (0 ∷ [])
   pub node_1_over_in_a_row : StandsExactly in_a_row node_1 []
   pub node_2_over_in_a_row : StandsExactly in_a_row node_2 (1 ∷ [])
-  pub NOverEitherPair : StandsExactly either_pair N (3 ∷ [])
+  pub n_over_either_pair : StandsExactly either_pair N (3 ∷ [])
   pub text_n1_over_either_pair : StandsExactly either_pair text_n1 (7 ∷ [])
   pub n2_text_over_either_pair : StandsExactly either_pair n2_text (7 ∷ [])
   pub node_1_over_either_pair : StandsExactly either_pair node_1 (0 ∷ [])

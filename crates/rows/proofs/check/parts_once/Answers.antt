@@ -9,7 +9,7 @@ use Rattle.rows.proofs.check.parts_once.Goals as goal
 use Rattle.rows.proofs.check.parts_once.Goals.{else-not-once-via-then-not-once+else-not-is_definition, else-not-once-via-else-not-once}
 
 pub tally-requires : goal.tally-requires
-tally-requires c = record { by_index = (c.requires.0, (c.requires.1, refl)); by_index_2 = λ a. zeros 128 a }
+tally-requires c = record { fitting = (c.requires.0, (c.requires.1, refl)); unused = λ a. zeros 128 a }
 
 pub returns-then-not-is_definition : goal.returns-then-not-is_definition
 returns-then-not-is_definition c =

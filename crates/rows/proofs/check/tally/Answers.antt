@@ -10,8 +10,8 @@ pub tally_row-requires : goal.tally_row-requires
 tally_row-requires c =
     let s = c.args.rows.now in
     let h = c.loop-e-test.true in record {
-      parts_below = fit_below s c.loop-e.e _ _ c.requires.by_index.0 (at_get_or s c.loop-e.e empty h) (omega arith);
-      by_index = λ a. let m = uses_most s c.loop-e.e a in let q = c.loop-e.invariant a in omega arith;
+      below = fit_below s c.loop-e.e _ _ c.requires.fitting.0 (at_get_or s c.loop-e.e empty h) (omega arith);
+      few = λ a. let m = uses_most s c.loop-e.e a in let q = c.loop-e.invariant a in omega arith;
     }
 
 pub loop-e-preserved : goal.loop-e-preserved
