@@ -1,5 +1,5 @@
 -- Text in an array: its bytes, and 0 in the places after them.
-use Rattle.std.specs.Prelude.{◌≡◌, ℕ, ◌+◌, ◌-◌, ◌*◌, ◌/◌, ◌%◌, ◌^◌, ◌<◌, ◌≤◌, cond, List, [], ◌∷◌, ◌++◌, length, replicate, decimal, nat_lt, slice_index}
+use Rattle.std.specs.Prelude.{◌≡◌, ℕ, ◌+◌, ◌-◌, ◌*◌, ◌/◌, ◌%◌, ◌^◌, ◌<◌, ◌≤◌, cond, List, [], ◌∷◌, ◌++◌, length, replicate, decimal, nat_lt, slice_index_or}
 use Rattle.forest.specs.Forest.{Bytes}
 
 -- The text in an array of so many bytes.
@@ -21,7 +21,7 @@ pub record Numeral (n : ℕ) (ds : List ℕ) : Type 0 where
   pub digits : Digits ds
   pub some : 0 < length ds
   pub stands_for : number_after 0 ds ≡ n
-  pub first : slice_index ds 0 ≡ 48 → length ds ≡ 1
+  pub first : slice_index_or ds 0 0 ≡ 48 → length ds ≡ 1
 
 -- Every number of 64 bits has just one such list of digits, `decimal` of it.
 abbrev pub OneNumeral : Type 0

@@ -1,5 +1,5 @@
 -- What holds while a survey is made, and what each of its steps leaves. Whoever calls the survey needs none of it.
-use Rattle.std.specs.Prelude.{◌≡◌, ℕ, ◌+◌, ◌<◌, ◌≤◌, ◌≢◌, List, length, Some, None, Ok, Err, Option, Result, slice_index_or, slice_set}
+use Rattle.std.specs.Prelude.{◌≡◌, ℕ, ◌+◌, ◌<◌, ◌≤◌, ◌≢◌, List, length, get_or, Some, None, Ok, Err, Option, Result, slice_index_or, slice_set}
 use Rattle.forest.specs.declared.fault.Fault.{Fault}
 use Rattle.forest.specs.Forest.{Forest, nil, text, node, Label}
 use Rattle.measure.specs.Measure.{Ordered, Lawful}
@@ -106,33 +106,33 @@ Absent e len σ = (k : ℕ) → k < len → (e k).standings ≢ σ
 
 -- the place of a sort among the first `len`
 abbrev pub Found : {C : Type 0} → List (Sort C) → ℕ → Standings → Option ℕ → Type 0
-Found {C} xs len σ (Some k) = (k < len) × ((d : Sort C) → (slice_index_or xs k d).standings ≡ σ)
-Found {C} xs len σ None = (d : Sort C) → Absent (λ k. slice_index_or xs k d) len σ
+Found {C} xs len σ (Some k) = (k < len) × ((d : Sort C) → (get_or xs k d).standings ≡ σ)
+Found {C} xs len σ None = (d : Sort C) → Absent (λ k. get_or xs k d) len σ
 
 -- a place, if any, is that of the sort
 abbrev pub Seen : {C : Type 0} → List (Sort C) → ℕ → Standings → Option ℕ → Type 0
-Seen {C} xs len σ (Some k) = (k < len) × ((d : Sort C) → (slice_index_or xs k d).standings ≡ σ)
+Seen {C} xs len σ (Some k) = (k < len) × ((d : Sort C) → (get_or xs k d).standings ≡ σ)
 Seen {C} xs len σ None = Unit {0}
 
 -- the entry at r costs at most as much as each from a on and before b
 abbrev pub LeastIn : {C : Type 0} → (C → C → Type 0) → List (Sort C) → ℕ → ℕ → ℕ → Type 0
-LeastIn {C} le xs a b r = (k : ℕ) (d : Sort C) → a ≤ k → k < b → le (slice_index_or xs r d).cost (slice_index_or xs k d).cost
+LeastIn {C} le xs a b r = (k : ℕ) (d : Sort C) → a ≤ k → k < b → le (get_or xs r d).cost (get_or xs k d).cost
 
 -- the costs of the first `len` are costs
 abbrev pub AllGood : {C : Type 0} → (C → Type 0) → List (Sort C) → ℕ → Type 0
-AllGood {C} good xs len = (k : ℕ) (d : Sort C) → k < len → good (slice_index_or xs k d).cost
+AllGood {C} good xs len = (k : ℕ) (d : Sort C) → k < len → good (get_or xs k d).cost
 
 -- x offered to the `len` entries of xs left ys with n entries; d is what stands past the end
 pub data Offered {C : Type 0} (le : C → C → Type 0) (d : Sort C) (xs : List (Sort C)) (len : ℕ) (x : Sort C) (ys : List (Sort C)) (n : ℕ) : Type 0 where
-  no_better : (k : ℕ) → k < len → (slice_index_or xs k d).standings ≡ x.standings → le (slice_index_or xs k d).cost x.cost → ys ≡ xs → n ≡ len → Offered le d xs len x ys n
-  better : (k : ℕ) → k < len → (slice_index_or xs k d).standings ≡ x.standings → (le (slice_index_or xs k d).cost x.cost → ⊥) → ys ≡ slice_set xs k x → n ≡ len → Offered le d xs len x ys n
-  another : Absent (λ k. slice_index_or xs k d) len x.standings → len < length xs → ys ≡ slice_set xs len x → n ≡ len + 1 → Offered le d xs len x ys n
+  no_better : (k : ℕ) → k < len → (get_or xs k d).standings ≡ x.standings → le (get_or xs k d).cost x.cost → ys ≡ xs → n ≡ len → Offered le d xs len x ys n
+  better : (k : ℕ) → k < len → (get_or xs k d).standings ≡ x.standings → (le (get_or xs k d).cost x.cost → ⊥) → ys ≡ slice_set xs k x → n ≡ len → Offered le d xs len x ys n
+  another : Absent (λ k. get_or xs k d) len x.standings → len < length xs → ys ≡ slice_set xs len x → n ≡ len + 1 → Offered le d xs len x ys n
 
 pub record Full {C : Type 0} (d : Sort C) (xs : List (Sort C)) (len : ℕ) (x : Sort C) (f : Fault) : Type 0 where
   pub number : f.number ≡ 21
   pub place : f.place ≡ 0
   pub full : length xs ≤ len
-  pub absent : Absent (λ k. slice_index_or xs k d) len x.standings
+  pub absent : Absent (λ k. get_or xs k d) len x.standings
 
 abbrev pub Offer : {C : Type 0} → (C → C → Type 0) → Sort C → List (Sort C) → ℕ → Sort C → List (Sort C) → Result ℕ Fault → Type 0
 Offer le d xs len x ys (Ok n) = Offered le d xs len x ys n
@@ -143,9 +143,9 @@ pub record Settled {C : Type 0} (le : C → C → Type 0) (d : Sort C) (xs : Lis
   pub place : ℕ
   pub low : done ≤ place
   pub high : place < len
-  pub least : (k : ℕ) → done ≤ k → k < len → le (slice_index_or xs place d).cost (slice_index_or xs k d).cost
-  pub to : slice_index_or ys done d ≡ slice_index_or xs place d
-  pub back : slice_index_or ys place d ≡ slice_index_or xs done d
+  pub least : (k : ℕ) → done ≤ k → k < len → le (get_or xs place d).cost (get_or xs k d).cost
+  pub to : get_or ys done d ≡ slice_index_or xs place d
+  pub back : get_or ys place d ≡ slice_index_or xs done d
   pub there : (j : ℕ) → j ≢ done → j ≢ place → slice_index_or ys j d ≡ slice_index_or xs j d
 
 -- the settled entries stay, and what was covered is
