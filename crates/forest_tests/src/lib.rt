@@ -50,7 +50,7 @@ mod tests {
         let mut record = Record::empty();
         match record.read(body) {
             Err(_) => Err(Fail::new("the body was refused")),
-            Ok(()) => { check(events(&record, body.len()) == count) },
+            Ok(()) => check(events(&record, body.len()) == count),
         }
     }
 

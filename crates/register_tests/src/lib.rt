@@ -74,7 +74,7 @@ mod tests {
 
     fn becomes(register: &mut Register, body: &[u8], edition: usize) -> Result<(), Fail> {
         match propose(register, body, 32)? {
-            Ok(number) => { check(number == edition) },
+            Ok(number) => check(number == edition),
             Err(_) => Err(Fail::new("the proposal was declined")),
         }
     }
@@ -91,13 +91,13 @@ mod tests {
                 check(fault.number == number)?;
                 check(fault.place == 0)
             }
-            Err(Declined::Loses { .. }) => { check(36 == number) },
+            Err(Declined::Loses { .. }) => check(36 == number),
         }
     }
 
     fn kept(register: &mut Register, body: &[u8], record: usize) -> Result<(), Fail> {
         match register.file(body) {
-            Ok(number) => { check(number == record) },
+            Ok(number) => check(number == record),
             Err(_) => Err(Fail::new("the record was refused")),
         }
     }
