@@ -108,24 +108,19 @@ def turn_comment(comment, turned):
     return re.sub(r"(?<![\w`-])" + PLAIN.pattern, lambda m: turned[m[0]] if m[0][0].isupper() and m[0] in turned else m[0], comment)
 
 
-def turn_antt(text, turned, crates, path):
+# Where a comment begins in a line.
+COMMENT = {".antt": re.compile(r"(?:^|(?<=\s))--(?=\s|$)"), ".rt": re.compile(r"(?<!:)//")}
+
+
+def turn_text(text, turned, crates, path):
+    begins = COMMENT[os.path.splitext(path)[1]]
     stay = staying(text, crates, path)
     of_proofs = bool(OF_PROOFS.search(path))
     lines = []
     for line in text.split("\n"):
-        m = re.search(r"(?:^|(?<=\s))--(?=\s|$)", line)
+        m = begins.search(line)
         at = m.start() if m else len(line)
         lines.append(turn_code(line[:at], turned, stay, of_proofs) + turn_comment(line[at:], turned))
-    return "\n".join(lines)
-
-
-def turn_rt(text, turned, crates, path):
-    stay = staying(text, crates, path)
-    lines = []
-    for line in text.split("\n"):
-        m = re.search(r"(?<!:)//", line)
-        at = m.start() if m else len(line)
-        lines.append(turn_code(line[:at], turned, stay, False) + turn_comment(line[at:], turned))
     return "\n".join(lines)
 
 
@@ -147,12 +142,10 @@ def main():
             print(f"refused: {' '.join(olds)} all become {new}")
             return 1
     for path, text in texts.items():
-        if path.endswith(".antt"):
-            new = turn_antt(text, turned, crates, path)
-        elif path.endswith(".rt"):
-            new = turn_rt(text, turned, crates, path)
-        else:
+        if path.endswith(".md"):
             new = "\n".join(turn_comment(line, turned) for line in text.split("\n"))
+        else:
+            new = turn_text(text, turned, crates, path)
         if new != text:
             with open(path, "w", encoding="utf-8") as f:
                 f.write(new)
