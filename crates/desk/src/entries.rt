@@ -1,12 +1,12 @@
 //! One entry of a stream: a sheet is checked and proposed, a record is filed, and the line of what became of it is made.
-ghost use Rattle.std.specs.Prelude.{ℕ, MatchResult};
-ghost use Rattle.desk.specs.Handling.{Handled, ending};
+ghost use Rattle.forest.specs.Refusals.{number_of};
+ghost use Rattle.std.specs.Prelude.{◌≡◌, ℕ, List, MatchResult};
+ghost use Rattle.desk.specs.Handling.{Handled, Outcome, SameReferences, ending, holds, lends, of_filing, of_proposal};
 ghost use Rattle.desk.specs.Seasons.{StaysASeason};
-ghost use Rattle.desk.specs.Steps.{IsSheet, NotASheet, Tells, TellsProposal};
-ghost use Rattle.law.specs.Calls.{lent};
-ghost use Rattle.register.specs.Holding.{held};
+ghost use Rattle.desk.specs.Steps.{IsSheet, NotASheet};
 ghost use Rattle.sheet.specs.Held.{rows_of};
 ghost use Rattle.survey.specs.declared.types.Sort.{Sort};
+ghost use Rattle.stream.specs.Line.{fields};
 ghost use Rattle.stream.specs.Stream.{a_record, a_sheet, body_of, kind_of};
 
 use crate::progress::Progress;
@@ -17,45 +17,20 @@ use measure::Length;
 use register::Register;
 use rows::ReadSheet;
 use sheet::sound::SoundSheet;
-use stream::{Entry, Line, LineBuffer, take};
+use stream::{Entry, Line, LineBuffer, Taken, take};
 
-/// Proposes a sheet, and makes the line of what became of it.
-fn tell_proposal(
-    register: &mut Register,
-    number: usize,
-    sheet: &SoundSheet,
-    list: &mut [Sort<u32>],
-    show: &mut [u8],
-    line: &mut LineBuffer,
-)
-    ensures { TellsProposal (held register.old) (lent list.old show.old) (rows_of sheet.now) number (held register.new) (lent list.new show.new) line.new }
-{
-    match register.propose(sheet, &Length, list, show) {
-        Ok(edition) => line.make(number, &Line::Edition(edition), show),
-        Err(Declined::Refused(fault)) => line.make(number, &Line::Refused(fault), show),
-        Err(
-            Declined::Loses {
-                cost,
-                length,
-                shown,
-            },
-        ) => {
-            line.make(
-                number,
-                &Line::Lost {
-                    cost,
-                    length,
-                    shown,
-                },
-                show,
-            );
-        }
-    }
+/// A register, what it is lent to judge with, and the buffer of the line that tells what became of an entry.
+#[derive(Drop)]
+pub struct Desk<'a> {
+    pub register: &'a mut Register,
+    pub list: &'a mut [Sort<u32>],
+    pub show: &'a mut [u8],
+    pub line: &'a mut LineBuffer,
 }
 
 /// Reads and checks the body of a sheet.
 fn check_sheet(body: &[u8]) -> Result<SoundSheet, Fault>
-    ensures { MatchResult result (λ s. IsSheet body.now (rows_of s)) (λ f. NotASheet body.now f.number f.place) }
+    ensures { MatchResult result (λ s. IsSheet body.now (rows_of s)) (λ f. NotASheet body.now (number_of f.refusal) f.place) }
 {
     let read = ReadSheet::read(body)?;
     let mut sheet = SoundSheet::empty();
@@ -63,80 +38,70 @@ fn check_sheet(body: &[u8]) -> Result<SoundSheet, Fault>
     Ok(sheet)
 }
 
-/// Makes the line of a sheet entry.
-fn tell_sheet(
-    register: &mut Register,
-    number: usize,
-    body: &[u8],
-    list: &mut [Sort<u32>],
-    show: &mut [u8],
-    line: &mut LineBuffer,
-)
-    ensures { Tells (held register.old) (lent list.old show.old) a_sheet body.now number (held register.new) (lent list.new show.new) line.new }
+/// What a line tells of a proposal.
+fn tell_proposal(answer: Result<usize, Declined<u32>>) -> Line
+    ensures { (show : List ℕ) → fields result show ≡ of_proposal answer show }
 {
-    match check_sheet(body) {
-        Ok(sheet) => tell_proposal(register, number, &sheet, list, show, line),
-        Err(fault) => line.make(number, &Line::Refused(fault), show),
+    match answer {
+        Ok(edition) => Line::Edition(edition),
+        Err(Declined::Refused(fault)) => Line::Refused(fault),
+        Err(Declined::Loses(loss)) => Line::Lost(loss),
     }
 }
 
-/// Files a record, and makes the line of what became of it.
-fn tell_record(
-    register: &mut Register,
-    number: usize,
-    body: &[u8],
-    list: &[Sort<u32>],
-    show: &[u8],
-    line: &mut LineBuffer,
-)
-    ensures { Tells (held register.old) (lent list.now show.now) a_record body.now number (held register.new) (lent list.now show.now) line.new }
+/// What a line tells of a filing.
+fn tell_filing(answer: Result<usize, Fault>) -> Line
+    ensures { (show : List ℕ) → fields result show ≡ of_filing answer }
 {
-    match register.file(body) {
-        Ok(record) => line.make(number, &Line::Record(record), show),
-        Err(fault) => line.make(number, &Line::Refused(fault), show),
+    match answer {
+        Ok(record) => Line::Record(record),
+        Err(fault) => Line::Refused(fault),
     }
 }
 
-/// Makes the line of an entry.
-fn tell(
-    register: &mut Register,
-    number: usize,
-    entry: Entry<'_>,
-    list: &mut [Sort<u32>],
-    show: &mut [u8],
-    line: &mut LineBuffer,
-)
-    ensures { Tells (held register.old) (lent list.old show.old) (kind_of entry.entry) (body_of entry.entry) number (held register.new) (lent list.new show.new) line.new }
-{
-    match entry {
-        Entry::Sheet(body) => tell_sheet(register, number, body, list, show, line),
-        Entry::Record(body) => tell_record(register, number, body, list, show, line),
+impl Desk<'_> {
+    /// Checks the body of a sheet, and proposes the sheet.
+    fn propose(&mut self, body: &[u8]) -> Result<usize, Declined<u32>>
+        ensures outcome { Outcome (holds self.old) (lends self.old) a_sheet body.now (of_proposal result (lends self.new).show) (holds self.new) (lends self.new) }
+        ensures same { SameReferences self.old self.new }
+    {
+        let sheet = check_sheet(body)?;
+        self.register.propose(&sheet, &Length, self.list, self.show)
     }
-}
 
-/// Handles the entry at the front of the input: its line, what the register holds then, and how the reading goes on.
-pub fn handle<'a>(
-    register: &mut Register,
-    number: usize,
-    input: &'a [u8],
-    list: &mut [Sort<u32>],
-    show: &mut [u8],
-    line: &mut LineBuffer,
-) -> Progress<'a>
-    ensures handled { Handled (held register.old) (lent list.old show.old) line.old number input.now (ending result) (held register.new) (lent list.new show.new) line.new }
-    ensures season { StaysASeason (Sort ℕ) (held register.old) (held register.new) }
-{
-    match take(input) {
-        Ok(found) => match found {
-            Some(taken) => {
-                tell(register, number, taken.entry, list, show, line);
-                Progress::More(taken.rest)
-            }
-            None => Progress::Done,
-        },
-        Err(fault) => {
-            line.make(number, &Line::Refused(fault), show);
-            Progress::Stopped
+    /// Files the body of a record.
+    fn file(&mut self, body: &[u8]) -> Result<usize, Fault>
+        ensures outcome { Outcome (holds self.old) (lends self.old) a_record body.now (of_filing result) (holds self.new) (lends self.new) }
+        ensures same { SameReferences self.old self.new }
+    {
+        self.register.file(body)
+    }
+
+    /// Proposes a sheet or files a record, and tells what became of it.
+    fn enter(&mut self, entry: Entry<'_>) -> Line
+        ensures outcome { Outcome (holds self.old) (lends self.old) (kind_of entry.entry) (body_of entry.entry)
+            (fields result (lends self.new).show) (holds self.new) (lends self.new) }
+        ensures same { SameReferences self.old self.new }
+    {
+        match entry {
+            Entry::Sheet(body) => tell_proposal(self.propose(body)),
+            Entry::Record(body) => tell_filing(self.file(body)),
         }
+    }
+
+    /// Handles the entry at the front of the input: its line, what the register holds then, and how the reading goes on.
+    pub fn handle<'a>(&mut self, number: usize, input: &'a [u8]) -> Progress<'a>
+        ensures handled { Handled (holds self.old) (lends self.old) self.old.line.now number input.now (ending result) (holds self.new) (lends self.new) self.new.line.now }
+        ensures season { StaysASeason (Sort ℕ) (holds self.old) (holds self.new) }
+        ensures same { SameReferences self.old self.new }
+    {
+        let (line, progress) = match take(input) {
+            Ok(Some(Taken { entry, rest })) => (self.enter(entry), Progress::More(rest)),
+            Ok(None) => return Progress::Done,
+            Err(fault) => (Line::Refused(fault), Progress::Stopped),
+        };
+        let show = &mut *self.show;
+        self.line.make(number, &line, show);
+        progress
     }
 }

@@ -5,5 +5,5 @@
 mod entries;
 mod progress;
 
-pub use entries::handle;
+pub use entries::Desk;
 pub use progress::Progress;

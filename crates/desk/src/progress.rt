@@ -1,5 +1,5 @@
 /// How the reading of a stream goes on.
-#[derive(Clone, Copy)]
+#[derive(Clone, Copy, PartialEq, Eq, Debug)]
 pub enum Progress<'a> {
     /// The input was at its end.
     Done,

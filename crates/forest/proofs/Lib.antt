@@ -4,3 +4,4 @@ pub mod Forms
 pub mod Unique
 pub mod Parses
 pub mod Coming
+pub mod Numbers

@@ -1,5 +1,5 @@
 -- Every body stands for a record or has a refusal due.
-use Rattle.std.proofs.Common.{◌≡◌, ℕ, zero, suc, ◌+◌, ◌-◌, ◌*◌, ◌/◌, ◌%◌, ◌<◌, ◌≤◌, max, ◌⊎◌, List, [], ◌∷◌, ◌++◌, length, take, drop, sym, refl, ap, ◌∙◌, subst, inl, inr, append_assoc, arith, length-append}
+use Rattle.std.proofs.Common.{◌≡◌, ℕ, zero, suc, ◌+◌, ◌-◌, ◌*◌, ◌/◌, ◌%◌, ◌<◌, ◌≤◌, max, ◌⊎◌, List, [], ◌∷◌, ◌++◌, length, take, drop, sym, refl, ap, ◌∙◌, subst, inl, inr, append_assoc, arith, length-append, get_or, Fits, w8}
 use native.Mathlib.Nat.{max-le}
 use lib.Arith.{digits_div, digits_mod}
 use Rattle.std.proofs.lemmas.List.{append-nil, take-append-drop, length-take-le}
@@ -7,6 +7,7 @@ use Rattle.std.proofs.lemmas.Bool.{cases_eq, cases_lt}
 use Rattle.forest.specs.Forest.{Forest, nil, text, node, Label, Bytes, Text, Proper, bytes_of, depth}
 use Rattle.forest.specs.Reading.{Token, opening, chars, closing, written, all_written, walk, StandsFor, LeavesOpen, in_opening, in_count, in_text, Wrong, cut_short, no_token, label_zero, stray_closing, never_closed, too_deep, DueWithin, Due, too_long, within, JustOne, AlwaysJustOne}
 use Rattle.forest.proofs.Forms.{one_form}
+use Rattle.forest.proofs.Stretches.{bytes_from}
 use Rattle.forest.proofs.Walks.{walk_written, due_after, due_here}
 use Rattle.forest.proofs.Unique.{one_refusal, not_both}
 
@@ -204,6 +205,10 @@ just_one body b = record {
   one_refusal = one_refusal body;
   not_both = not_both body;
 }
+
+-- The same from bytes that are told one by one.
+pub just_one_of : (body : List ℕ) → ((i : ℕ) → Fits w8 (get_or body i 0)) → JustOne body
+just_one_of body h = just_one body (bytes_from body (λ i l. omega (arith, h i)))
 
 pub always_just_one : AlwaysJustOne
 always_just_one = just_one

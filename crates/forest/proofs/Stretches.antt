@@ -1,11 +1,11 @@
 -- What stands in a body from an offset on.
-use Rattle.std.proofs.Common.{◌≡◌, ℕ, suc, ◌+◌, ◌-◌, ◌*◌, ◌/◌, ◌%◌, ◌<◌, ◌≤◌, List, [], ◌∷◌, ◌++◌, length, get_or, take, drop, sym, refl, ap, ◌∙◌, subst, append_assoc, add-zero, arith, length-append, length-drop}
+use Rattle.std.proofs.Common.{◌≡◌, ℕ, suc, ◌+◌, ◌-◌, ◌*◌, ◌/◌, ◌%◌, ◌<◌, ◌≤◌, ◌⊎◌, inl, inr, List, [], ◌∷◌, ◌++◌, length, get_or, take, drop, sym, refl, ap, ◌∙◌, subst, append_assoc, add-zero, arith, length-append, length-drop, Fits, w8}
 use native.Mathlib.Nat.{max-le}
 use lib.Arith.{digits_div, digits_mod}
 use Rattle.std.proofs.lemmas.List.{take_rest, get_or-drop, get_or-take, drop_more, drop_all, drop-drop, take-append-drop, length-take-le}
 use Rattle.forest.specs.Forest.{Forest, nil, text, node, Bytes, Proper, join, bytes_of, depth}
 use Rattle.forest.specs.Reading.{opening, all_written, walk, in_opening, in_count, in_text, Wrong, cut_short, no_token, label_zero, stray_closing, never_closed, too_deep, DueWithin}
-use Rattle.forest.specs.Steps.{Stretch, Refused, RefusedAt}
+use Rattle.forest.specs.Steps.{Stretch, Refused}
 use Rattle.forest.proofs.Walks.{walk_written, walk_leaves, due_after, due_here, content_depth, rest_depth}
 
 -- `&b[at..]`, as the code's patterns see it
@@ -17,6 +17,12 @@ get_or_view b at i = ap (λ x. get_or x i 0) (take_rest b at) ∙ get_or-drop at
 
 pub view_first : (b : List ℕ) (at : ℕ) → get_or (view b at) 0 0 ≡ get_or b at 0
 view_first b at = get_or_view b at 0 ∙ ap (λ n. get_or b n 0) (add-zero at)
+
+pub first_seen : (b : List ℕ) (at x : ℕ) → get_or (view b at) 0 0 ≡ x → get_or b at 0 ≡ x
+first_seen b at x h = sym (view_first b at) ∙ h
+
+pub view_length : (b : List ℕ) (at : ℕ) → length (view b at) ≡ length b - at
+view_length b at = ap length (take_rest b at) ∙ length-drop at b
 
 -- The first bytes from an offset on.
 pub one : (b : List ℕ) (at x : ℕ) → at < length b → get_or b at 0 ≡ x → drop at b ≡ x ∷ drop (at + 1) b
@@ -55,6 +61,12 @@ depth_join nil g n h k = k
 depth_join (text t r) g n h k = depth_join r g n h k
 depth_join (node l c r) g n h k = max-le (content_depth l c r n h) (depth_join r g n (rest_depth l c r n h) k)
 
+-- An opening stands at an offset, with a label that is not 0.
+pub record OpensAt (b : List ℕ) (at : ℕ) : Type 0 where
+  pub whole : at + 2 < length b
+  pub mark : get_or b at 0 ≡ 1
+  pub labelled : 0 < get_or b (at + 1) 0 + get_or b (at + 2) 0
+
 -- Stretches.
 pub stretch_more : (n : ℕ) (b : List ℕ) (at m e : ℕ) → Stretch n b at m → Stretch n b m e → Stretch n b at e
 stretch_more n b at m e p q = record {
@@ -67,16 +79,16 @@ stretch_more n b at m e p q = record {
       ∙ sym (append_assoc (bytes_of p.forest) (bytes_of q.forest) (drop e b)) ∙ ap (λ x. x ++ drop e b) (sym (bytes_join p.forest q.forest));
 }
 
-pub stretch_text : (n : ℕ) (b : List ℕ) (at k : ℕ) → ((i : ℕ) → get_or b i 0 < 256) → at + 1 < length b
+pub stretch_text : (n : ℕ) (b : List ℕ) (at k : ℕ) → ((i : ℕ) → Fits w8 (get_or b i 0)) → at + 1 < length b
     → get_or b at 0 ≡ 3 → get_or b (at + 1) 0 ≡ k → at + 2 + k ≤ length b → Stretch n b at (at + 2 + k)
 stretch_text n b at k bs l o ke le =
     let t : List ℕ = take k (drop (at + 2) b) in
     let d : k ≤ length (drop (at + 2) b) = simp length-drop (omega arith) in
     let e : length t ≡ k = length-take-le k (drop (at + 2) b) d in
-    let kb : k < 256 = subst (λ (m : ℕ). m < 256) ke (bs (at + 1)) in
+    let kb : k < 256 = omega (arith, ke, bs (at + 1)) in
     let tb : Bytes t = bytes_from t (λ i h.
     let lt : i < k = omega (arith, e) in
-    rw (get_or-take k (drop (at + 2) b) i 0 lt, get_or-drop (at + 2) b i 0) (bs (at + 2 + i))) in
+    rw (get_or-take k (drop (at + 2) b) i 0 lt, get_or-drop (at + 2) b i 0) (omega (arith, bs (at + 2 + i)))) in
     let y : drop (at + 2) b ≡ t ++ drop (at + 2 + k) b = sym (take-append-drop k (drop (at + 2) b)) ∙ ap (λ m. t ++ m) (drop-drop k (at + 2) b) in
     let z : drop (at + 2) b ≡ (t ++ []) ++ drop (at + 2 + k) b = y ∙ sym (append_assoc t [] (drop (at + 2 + k) b)) in
     record {
@@ -88,14 +100,13 @@ stretch_text n b at k bs l o ke le =
       is_written = two b at 3 k l o ke ∙ ap (λ m. 3 ∷ (k ∷ m)) z ∙ ap (λ m. 3 ∷ (m ∷ ((t ++ []) ++ drop (at + 2 + k) b))) (sym e);
     }
 
-pub stretch_node : (n : ℕ) (b : List ℕ) (at e : ℕ) → ((i : ℕ) → get_or b i 0 < 256) → at + 2 < length b
-    → get_or b at 0 ≡ 1 → 0 < get_or b (at + 1) 0 + get_or b (at + 2) 0 → 0 < n
+pub stretch_node : (n : ℕ) (b : List ℕ) (at e : ℕ) → ((i : ℕ) → Fits w8 (get_or b i 0)) → OpensAt b at → 0 < n
     → Stretch (n - 1) b (at + 3) e → e < length b → get_or b e 0 ≡ 2 → Stretch n b at (e + 1)
-stretch_node n b at e bs l o pos dn p le c =
+stretch_node n b at e bs o dn p le c =
     let hi : ℕ = get_or b (at + 1) 0 in
     let lo : ℕ = get_or b (at + 2) 0 in
-    let hs : hi < 256 = bs (at + 1) in
-    let ls : lo < 256 = bs (at + 2) in
+    let hs : hi < 256 = omega (arith, bs (at + 1)) in
+    let ls : lo < 256 = omega (arith, bs (at + 2)) in
     let v : ℕ = hi * 256 + lo in
     let y : drop e b ≡ 2 ∷ drop (e + 1) b = one b e 2 le c in
     let z : drop (at + 3) b ≡ (bytes_of p.forest ++ (2 ∷ [])) ++ drop (e + 1) b
@@ -104,7 +115,7 @@ stretch_node n b at e bs l o pos dn p le c =
     let r : v % 256 ≡ lo = digits_mod hi ls in
     let on : at + 3 ≤ e = p.onward in
     let sh : depth p.forest ≤ n - 1 = p.shallow in
-    let pos1 : 0 < v = omega arith in
+    let pos1 : 0 < v = omega (arith, o.labelled) in
     let bound : v < 65536 = omega arith in
     let deep : suc (depth p.forest) ≤ n = omega arith in
     let none : 0 ≤ n = omega arith in
@@ -114,7 +125,7 @@ stretch_node n b at e bs l o pos dn p le c =
       shallow = max-le deep none;
       onward = omega arith;
       inside = omega arith;
-      is_written = three b at 1 hi lo l o refl refl ∙ ap (λ k. 1 ∷ (hi ∷ (lo ∷ k))) z
+      is_written = three b at 1 hi lo o.whole o.mark refl refl ∙ ap (λ k. 1 ∷ (hi ∷ (lo ∷ k))) z
           ∙ ap (λ k. 1 ∷ (k ∷ (lo ∷ ((bytes_of p.forest ++ (2 ∷ [])) ++ drop (e + 1) b)))) (sym q)
           ∙ ap (λ k. 1 ∷ (v / 256 ∷ (k ∷ ((bytes_of p.forest ++ (2 ∷ [])) ++ drop (e + 1) b)))) (sym r);
     }
@@ -122,11 +133,6 @@ stretch_node n b at e bs l o pos dn p le c =
 -- Refusals.
 pub refused_here : (d : ℕ) (b : List ℕ) (at n : ℕ) → Wrong d (drop at b) n → Refused d b at n at
 refused_here d b at n w = record { offset = 0; due = due_here d (drop at b) n w; place_is = sym (add-zero at) }
-
-pub refused_at : (d : ℕ) (b : List ℕ) (at n p : ℕ) → RefusedAt b at n p → Refused d b at n p
-refused_at d b at n p w =
-    let e : p ≡ at = w.place_is in
-    subst (λ (q : ℕ). Refused d b at n q) (sym e) (refused_here d b at n (w.wrong d))
 
 -- A refusal after a stretch.
 pub refused_after : (k d : ℕ) (b : List ℕ) (at m n p : ℕ) → d + k ≤ 64 → Stretch k b at m → Refused d b m n p → Refused d b at n p
@@ -146,21 +152,20 @@ refused_after k d b at m n p h s r =
     }
 
 -- A refusal inside a node.
-pub refused_inside : (d k : ℕ) (b : List ℕ) (at n p : ℕ) → ((i : ℕ) → get_or b i 0 < 256) → at + 2 < length b
-    → get_or b at 0 ≡ 1 → 0 < get_or b (at + 1) 0 + get_or b (at + 2) 0 → d < 64 → k ≡ suc d → Refused k b (at + 3) n p → Refused d b at n p
-refused_inside d k b at n p bs l o pos h ke r' =
+pub refused_inside : (d k : ℕ) (b : List ℕ) (at n p : ℕ) → ((i : ℕ) → Fits w8 (get_or b i 0)) → OpensAt b at → d < 64 → k ≡ suc d → Refused k b (at + 3) n p → Refused d b at n p
+refused_inside d k b at n p bs o h ke r' =
     let r : Refused (suc d) b (at + 3) n p = subst (λ (m : ℕ). Refused m b (at + 3) n p) ke r' in
     let hi : ℕ = get_or b (at + 1) 0 in
     let lo : ℕ = get_or b (at + 2) 0 in
-    let hs : hi < 256 = bs (at + 1) in
-    let ls : lo < 256 = bs (at + 2) in
+    let hs : hi < 256 = omega (arith, bs (at + 1)) in
+    let ls : lo < 256 = omega (arith, bs (at + 2)) in
     let v : ℕ = hi * 256 + lo in
     let q : v / 256 ≡ hi = digits_div hi ls in
     let m : v % 256 ≡ lo = digits_mod hi ls in
     let e : 1 ∷ (v / 256 ∷ (v % 256 ∷ drop (at + 3) b)) ≡ drop at b
     = ap (λ k. 1 ∷ (k ∷ (v % 256 ∷ drop (at + 3) b))) q ∙ ap (λ k. 1 ∷ (hi ∷ (k ∷ drop (at + 3) b))) m
-    ∙ sym (three b at 1 hi lo l o refl refl) in
-    let pos1 : 0 < v = omega arith in
+    ∙ sym (three b at 1 hi lo o.whole o.mark refl refl) in
+    let pos1 : 0 < v = omega (arith, o.labelled) in
     let bound : v < 65536 = omega arith in
     let pl : p ≡ at + 3 + r.offset = r.place_is in
     let x = due_after d (suc d) (opening v ∷ []) (drop (at + 3) b) n r.offset ((pos1, bound), h, refl) r.due in
@@ -194,19 +199,54 @@ pub no_mark : (d : ℕ) (b : List ℕ) (at : ℕ) → at < length b → (get_or 
     → Wrong d (drop at b) 5
 no_mark d b at l n1 n2 n3 = subst (λ (x : List ℕ). Wrong d x 5) (sym (one b at (get_or b at 0) l refl)) (no_token n1 n2 n3)
 
-pub too_nested : (d : ℕ) (b : List ℕ) (at : ℕ) → ((i : ℕ) → get_or b i 0 < 256) → at + 2 < length b → get_or b at 0 ≡ 1
-    → 0 < get_or b (at + 1) 0 + get_or b (at + 2) 0 → 64 ≤ d → Wrong d (drop at b) 8
-too_nested d b at bs l o pos h =
+pub too_nested : (d : ℕ) (b : List ℕ) (at : ℕ) → ((i : ℕ) → Fits w8 (get_or b i 0)) → OpensAt b at → 64 ≤ d → Wrong d (drop at b) 8
+too_nested d b at bs o h =
     let hi : ℕ = get_or b (at + 1) 0 in
     let lo : ℕ = get_or b (at + 2) 0 in
-    let hs : hi < 256 = bs (at + 1) in
-    let ls : lo < 256 = bs (at + 2) in
-    let pos1 : 0 < hi * 256 + lo = omega arith in
+    let hs : hi < 256 = omega (arith, bs (at + 1)) in
+    let ls : lo < 256 = omega (arith, bs (at + 2)) in
+    let pos1 : 0 < hi * 256 + lo = omega (arith, o.labelled) in
     let bound : hi * 256 + lo < 65536 = omega arith in
-    subst (λ (x : List ℕ). Wrong d x 8) (sym (three b at 1 hi lo l o refl refl)) (too_deep (pos1, bound) h)
+    subst (λ (x : List ℕ). Wrong d x 8) (sym (three b at 1 hi lo o.whole o.mark refl refl)) (too_deep (pos1, bound) h)
 
 pub unclosed : (d : ℕ) (b : List ℕ) (at : ℕ) → length b ≤ at → 0 < d → Wrong d (drop at b) 7
 unclosed d b at l h = subst (λ (x : List ℕ). Wrong d x 7) (sym (drop_all at b l)) (never_closed h)
 
 pub stray : (b : List ℕ) (at : ℕ) → at < length b → get_or b at 0 ≡ 2 → Wrong 0 (drop at b) 7
 stray b at l o = subst (λ (x : List ℕ). Wrong 0 x 7) (sym (one b at 2 l o)) (stray_closing refl)
+
+-- What stands at an offset inside the body, from what the code's patterns see there.
+module _ (b : List ℕ) (at : ℕ) (l : at < length b) where
+  pub opens : 3 ≤ length (view b at) → get_or (view b at) 0 0 ≡ 1 → 0 < get_or (view b at) 1 0 + get_or (view b at) 2 0 → OpensAt b at
+  opens k b0 pos = record {
+    whole = omega (arith, view_length b at);
+    mark = first_seen b at 1 b0;
+    labelled = omega (arith, get_or_view b at 1, get_or_view b at 2);
+  }
+
+  pub text_seen : (n count : ℕ) → ((i : ℕ) → Fits w8 (get_or b i 0)) → get_or (view b at) 0 0 ≡ 3 → count ≡ get_or (view b at) 1 0
+      → 2 + count ≤ length (view b at) → (at < at + 2 + count) × Stretch n b at (at + 2 + count)
+  text_seen n count bs b0 e k =
+      (omega arith, stretch_text n b at count bs (omega (arith, view_length b at)) (first_seen b at 3 b0) (sym (get_or_view b at 1) ∙ sym e) (omega (arith, view_length b at)))
+
+  -- An opening, the count of a text or its bytes are cut short.
+  abbrev pub ShortSeen : Type 0
+  ShortSeen =
+      ((get_or (view b at) 0 0 ≡ 1) × (length (view b at) ≤ 2))
+      ⊎ (((get_or (view b at) 0 0 ≡ 3) × (length (view b at) ≤ 1))
+      ⊎ ((get_or (view b at) 0 0 ≡ 3) × (2 ≤ length (view b at)) × (length (view b at) < 2 + get_or (view b at) 1 0)))
+
+  pub short_seen : (d : ℕ) → ShortSeen → Refused d b at 4 at
+  short_seen d (inl h) = refused_here d b at 4 (short_opening b at l (omega (arith, view_length b at)) (first_seen b at 1 h.0) d)
+  short_seen d (inr (inl h)) = refused_here d b at 4 (short_count b at l (omega (arith, view_length b at)) (first_seen b at 3 h.0) d)
+  short_seen d (inr (inr h)) =
+      refused_here d b at 4 (short_text b at (get_or b (at + 1) 0) (omega (arith, view_length b at)) (first_seen b at 3 h.0) refl (omega (arith, view_length b at, get_or_view b at 1)) d)
+
+  pub label_zero_seen : (d : ℕ) → 3 ≤ length (view b at) → get_or (view b at) 0 0 ≡ 1 → get_or (view b at) 1 0 ≡ 0 → get_or (view b at) 2 0 ≡ 0
+      → Refused d b at 6 at
+  label_zero_seen d k b0 b1 b2 =
+      refused_here d b at 6 (zero_label b at (omega (arith, view_length b at)) (first_seen b at 1 b0) (sym (get_or_view b at 1) ∙ b1) (sym (get_or_view b at 2) ∙ b2) d)
+
+  pub no_mark_seen : (d : ℕ) → (get_or (view b at) 0 0 ≡ 1 → ⊥) → (get_or b at 0 ≡ 2 → ⊥) → (get_or (view b at) 0 0 ≡ 3 → ⊥) → Refused d b at 5 at
+  no_mark_seen d n1 n2 n3 =
+      refused_here d b at 5 (no_mark d b at l (λ e. n1 (view_first b at ∙ e)) n2 (λ e. n3 (view_first b at ∙ e)))

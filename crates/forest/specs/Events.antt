@@ -3,14 +3,15 @@ use Rattle.std.specs.Prelude.{◌≡◌, ℕ, ◌+◌, ◌≤◌, List, [], ◌�
 use Rattle.forest.specs.declared.event.Event.{Event}
 use Rattle.forest.specs.declared.event.Event.TheVariants.{Opening, Text, Closing}
 use Rattle.forest.specs.declared.fault.Fault.{Fault}
+use Rattle.forest.specs.Refusals.{number_of}
 use Rattle.forest.specs.Forest.{Forest, Label}
 use Rattle.forest.specs.Forest as forests
 use Rattle.forest.specs.Reading.{Token, opening, chars, closing, written, all_written, StandsFor, Due}
 
 -- The answer to reading a body: it stands for a record, or a refusal is due, which the fault tells by number and place.
-abbrev pub Reading : List ℕ → Result (Unit {0}) Fault → Type 0
-Reading body (Ok done) = (f : Forest) × StandsFor body f
-Reading body (Err fault) = Due body fault.number fault.place
+abbrev pub Reading : {A : Type 0} → List ℕ → Result A Fault → Type 0
+Reading body (Ok read) = (f : Forest) × StandsFor body f
+Reading body (Err fault) = Due body (number_of fault.refusal) fault.place
 
 -- The event shows the token that begins at the offset. The bytes of a text begin two bytes later.
 abbrev pub Shows : Event → Token → ℕ → Type 0

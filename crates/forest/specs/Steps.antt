@@ -1,7 +1,7 @@
 -- What the functions that read promise each other.
 use Rattle.std.specs.Prelude.{◌≡◌, ℕ, ◌+◌, ◌≤◌, ◌⊎◌, List, ◌++◌, length, drop, slice_index}
 use Rattle.forest.specs.Forest.{Forest, Proper, bytes_of, depth}
-use Rattle.forest.specs.Reading.{DueWithin, Wrong}
+use Rattle.forest.specs.Reading.{DueWithin}
 
 -- A forest whose nodes nest at most n deep stands in the body from one offset to another.
 pub record Stretch (n : ℕ) (body : List ℕ) (from to : ℕ) : Type 0 where
@@ -21,8 +21,3 @@ pub record Refused (d : ℕ) (body : List ℕ) (at number place : ℕ) : Type 0 
   pub offset : ℕ
   pub due : DueWithin d (drop at body) number offset
   pub place_is : place ≡ at + offset
-
--- The same right at the offset, however many nodes are open.
-pub record RefusedAt (body : List ℕ) (at number place : ℕ) : Type 0 where
-  pub wrong : (d : ℕ) → Wrong d (drop at body) number
-  pub place_is : place ≡ at

@@ -6,10 +6,11 @@ pub mod event;
 pub mod events;
 pub mod fault;
 pub mod laws;
+mod marks;
 mod read;
 pub mod record;
 
 pub use event::Event;
 pub use events::Events;
-pub use fault::Fault;
+pub use fault::{Fault, Refusal};
 pub use record::Record;

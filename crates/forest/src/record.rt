@@ -2,10 +2,10 @@
 ghost use Rattle.forest.specs.Events.{Reading, ToCome};
 ghost use Rattle.forest.specs.Forest.{Forest};
 ghost use Rattle.forest.specs.Reading.{JustOne, StandsFor, walk};
-ghost use Rattle.std.specs.Prelude.{◌≡◌, [], MatchResult};
+ghost use Rattle.std.specs.Prelude.{◌≡◌, [], IfOk};
 
 use super::events::Events;
-use super::fault::Fault;
+use super::fault::{Fault, Refusal};
 use super::read::read_forest;
 
 const MOST_BYTES: usize = 4096;
@@ -13,7 +13,7 @@ const MOST_BYTES: usize = 4096;
 const MOST_NESTING: usize = 64;
 
 /// The body of a record. Every value of this type was checked.
-#[derive(Clone, Copy)]
+#[derive(Clone, Copy, PartialEq, Eq, Debug)]
 pub struct Record<'a> {
     body: &'a [u8],
     ghost checked: { ∥ ((f : Forest) × StandsFor body.now f) ∥₁ },
@@ -25,14 +25,14 @@ fn check(body: &[u8]) -> Result<(), Fault>
 {
     if body.len() > MOST_BYTES {
         return Err(Fault {
-            number: 3,
+            refusal: Refusal::RecordTooLong,
             place: 0,
         });
     }
     let end = read_forest(body, 0, MOST_NESTING)?;
     if end < body.len() {
         return Err(Fault {
-            number: 7,
+            refusal: Refusal::Unbalanced,
             place: end,
         });
     }
@@ -47,15 +47,15 @@ impl<'a> Record<'a> {
         Record { body: &[] }
     }
 
-    /// Holds `body` from now on if it is the body of a record; a refusal leaves what was held.
-    pub fn read(&mut self, body: &'a [u8]) -> Result<(), Fault>
+    /// The record that `body` is the body of.
+    #[tactic(auto, using(crate::proofs::Parses::just_one_of))]
+    pub fn read(body: &'a [u8]) -> Result<Record<'a>, Fault>
         ensures answer { Reading body.now result }
-        ensures held { MatchResult result (λ _. self.new.body.now ≡ body.now) (λ _. self.new ≡ self.old) }
+        ensures held { IfOk result (λ r. r.body.now ≡ body.now) }
         ensures just_one { JustOne body.now }
     {
         check(body)?;
-        *self = Record { body };
-        Ok(())
+        Ok(Record { body })
     }
 
     /// Everything that it is made of, to be handed out from the left.

@@ -1,4 +1,5 @@
 -- What a judgement by sorts says of two sheets.
+use Rattle.forest.specs.Refusals.{told as fault_told}
 use Rattle.std.proofs.Common.{◌≡◌, ℕ, Bool, true, false, not, T, ◌⊎◌, ◌↔◌, List, Ok, Err, Result, sym, refl, ◌∙◌, subst, inl, inr, arith}
 use Rattle.forest.specs.declared.fault.Fault.{Fault}
 use Rattle.forest.specs.Forest.{Forest, bytes_of}
@@ -14,7 +15,7 @@ use Rattle.loss.specs.Losing.{Tells}
 use Rattle.loss.specs.declared.verdict.Verdict.{Verdict}
 use Rattle.loss.specs.declared.verdict.Verdict.TheVariants.{AllAdmitted, Lost}
 use Rattle.loss.specs.Verdict as by
-use Rattle.loss.specs.Verdict.{Few, Loss, Refusal, no_list, too_many}
+use Rattle.loss.specs.Verdict.{Few, CheapestLost, Refusal, no_list, too_many}
 use Rattle.judge.specs.declared.pair.Pair.{Pair}
 use Rattle.judge.specs.Pairs.{sorting_of, sides_of}
 use Rattle.judge.specs.Judging.{MoreSorts, Shows, Told}
@@ -23,19 +24,13 @@ use Rattle.judge.specs.Places.{same_standing, same_number}
 use Rattle.judge.specs.Pairing.{sorts}
 
 differ : {b : Bool} → b ≡ true → b ≡ false → ⊥
-differ p q = let z : ◌≡◌ {A = ℕ} 0 1 = cc in omega arith
-
-abbrev fault : ℕ → ℕ → Fault
-fault number place = record { number = number; place = place }
+differ p q = cc
 
 module _ (p : Pair) (σ : Standings) where
   pub admitted : (a b : Bool) → ((f : Forest) → IsStanding (rows_of p.old) σ.old f → T a ↔ OfSheet (rows_of p.old) f)
       → ((f : Forest) → IsStanding (rows_of p.new) σ.new f → T b ↔ OfSheet (rows_of p.new) f) → a ≡ true → Tells (sorting_of p) (sides_of p) σ (not b)
   admitted a true x y e = record { yes = λ h. absurd (differ h refl); no = λ _ f counted has o. (y f has.1).0 tt }
   admitted a false x y e = record { yes = λ _ f counted has. ((x f has.0).0 (subst T (sym e) tt), λ o. (y f has.1).1 o); no = λ h. absurd (differ refl h) }
-
-  pub refused : (a : Bool) → ((f : Forest) → IsStanding (rows_of p.old) σ.old f → T a ↔ OfSheet (rows_of p.old) f) → a ≡ false → Tells (sorting_of p) (sides_of p) σ false
-  refused a x e = record { yes = λ h. absurd (differ h refl); no = λ _ f counted has o. absurd (subst T e ((x f has.0).1 o)) }
 
 shows : (f : Forest) (before after : List ℕ) (shown : Bool) → Put f before after shown → Shows (bytes_of f) shown before after
 shows f before after true z = (omega (arith, z.0, z.1), z.2)
@@ -59,7 +54,7 @@ module _ (p : Pair) where
       }
 
   module _ {C : Type 0} (m : Costs C) (before after : List ℕ) where
-    told : (cost : C) (size : ℕ) (shown : Bool) → Loss (sorting_of p) (sides_of p) m before after cost size shown → Told m (rows_of p.old) (rows_of p.new) cost size shown before after
+    told : (cost : C) (size : ℕ) (shown : Bool) → CheapestLost (sorting_of p) (sides_of p) m before after cost size shown → Told m (rows_of p.old) (rows_of p.new) cost size shown before after
     told cost size shown l =
         record {
           one = l.forest;
@@ -70,20 +65,20 @@ module _ (p : Pair) where
           least = λ g h. rw l.cost_is (l.least g h.proper (h.of_old, h.not_of_new));
         }
 
-    refusal : {L : Type 0} (n : ℕ) (list list' : L) (number place : ℕ) → Refusal (sorting_of p) n list list' number place
-        → ((fault number place ≡ fault 20 0) × (Fit n → ⊥)) ⊎ ((fault number place ≡ fault 21 0) × Fit n × MoreSorts (rows_of p.old) (rows_of p.new) n)
-    refusal n list list' number place (no_list h e) = inl (refl, λ fit. elim h [ inl x ↦ omega (arith, fit.0) | inr x ↦ omega (arith, fit.1) ])
-    refusal n list list' number place (too_many low high t) = inr (refl, (low, high), more_sorts n t)
+    refusal : {L : Type 0} (n : ℕ) (list list' : L) (tells : ℕ × ℕ) → Refusal (sorting_of p) n list list' tells
+        → ((tells ≡ (20, 0)) × (Fit n → ⊥)) ⊎ ((tells ≡ (21, 0)) × Fit n × MoreSorts (rows_of p.old) (rows_of p.new) n)
+    refusal n list list' tells (no_list h e) = inl (refl, λ fit. elim h [ inl x ↦ omega (arith, fit.0) | inr x ↦ omega (arith, fit.1) ])
+    refusal n list list' tells (too_many low high t) = inr (refl, (low, high), more_sorts n t)
 
-    unbegun_at : {L : Type 0} (n : ℕ) (list list' : L) (number place : ℕ) → Refusal (sorting_of p) n list list' number place → number ≡ 20 → list' ≡ list
-    unbegun_at n list list' number place (no_list h e) q = e
-    unbegun_at n list list' number place (too_many low high t) q = absurd (omega arith)
+    unbegun_at : {L : Type 0} (n : ℕ) (list list' : L) (tells : ℕ × ℕ) → Refusal (sorting_of p) n list list' tells → tells.0 ≡ 20 → list' ≡ list
+    unbegun_at n list list' tells (no_list h e) q = e
+    unbegun_at n list list' tells (too_many low high t) q = absurd (omega arith)
 
     pub judged : {L : Type 0} (n : ℕ) (list list' : L) (r : Result (Verdict C) Fault) → by.Judged (sorting_of p) (sides_of p) m n list list' before after r → Judged m (rows_of p.old) (rows_of p.new) n r before after
     judged n list list' (Ok AllAdmitted) z = ((z.0, z.1), few_sorts n z.2, z.3.0, z.3.1)
-    judged n list list' (Ok (Lost cost size shown)) z = ((z.0, z.1), few_sorts n z.2, told cost size shown z.3)
-    judged n list list' (Err f) z = (refusal n list list' f.number f.place z.0, z.1)
+    judged n list list' (Ok (Lost l)) z = ((z.0, z.1), few_sorts n z.2, told l.cost l.length l.shown z.3)
+    judged n list list' (Err f) z = (refusal n list list' (fault_told f) z.0, z.1)
 
     pub unbegun : {L : Type 0} (n : ℕ) (list list' : L) (r : Result (Verdict C) Fault) → by.Judged (sorting_of p) (sides_of p) m n list list' before after r → Unbegun r list list'
     unbegun n list list' (Ok v) z = tt
-    unbegun n list list' (Err f) z = unbegun_at n list list' f.number f.place z.0
+    unbegun n list list' (Err f) z = unbegun_at n list list' (fault_told f) z.0

@@ -1,5 +1,4 @@
 -- Two sheets as a sorting of forests. Whoever calls the judge needs none of it.
-use Rattle.std.specs.Prelude.{slice_index}
 use Rattle.forest.specs.Forest.{Proper}
 use Rattle.sheet.specs.Meaning.{OfSheet}
 use Rattle.sheet.specs.Standing.{IsStanding, AreLeaves, a_node}
@@ -13,8 +12,7 @@ sorting_of p = record {
   counts = Proper;
   has = λ f σ. IsStanding (rows_of p.old) σ.old f × IsStanding (rows_of p.new) σ.new f;
   has_leaves = λ l c ls. AreLeaves (rows_of p.old) ls.old (a_node l c) × AreLeaves (rows_of p.new) ls.new (a_node l c);
-  count = p.count;
-  label = λ i. slice_index p.labels i;
+  labels = p.labels;
 }
 
 abbrev pub sides_of : Pair → Sides

@@ -1,74 +1,96 @@
 // Which labels are tried for two sheets.
-ghost use Rattle.std.specs.Prelude.{◌≡◌, ℕ, ◌+◌, ◌<◌, ◌≤◌, true, false, length};
+ghost use Rattle.std.specs.Prelude.{◌≡◌, ℕ, ◌+◌, ◌≤◌, ◌⊎◌, ◌↔◌, IsTrue, List, [], ◌∷◌, ◌++◌, length, take, Contains};
 ghost use Rattle.forest.specs.Forest.{Label};
-ghost use Rattle.judge.specs.Labels.{Untried, Tried, Real, AllLabelled, FrontKept};
-ghost use Rattle.rows.specs.declared.row.Row.TheVariants.{Named};
+ghost use Rattle.judge.specs.Labels.{Mentions};
 
 use rows::Row;
+use std::marker::Model;
 
-// Whether the label is among the first n.
-fn holds(labels: &[u16], n: usize, label: u16) -> bool
-    requires { n ≤ length labels.now }
-    ensures yes { result ≡ true → Untried labels.now n label → ⊥ }
-    ensures no { result ≡ false → Untried labels.now n label }
-{
-    for i in 0..n {
-        if labels[i] == label {
-            return true;
+/// All the labels that two sheets name, and one that neither names.
+const MOST_LABELS: usize = 257;
+
+/// A list of labels. It stands in an array, since nothing is allocated.
+#[derive(Drop)]
+pub struct Labels {
+    all: [u16; MOST_LABELS],
+    count: usize,
+}
+
+impl Model for Labels {
+    ghost Value = { List ℕ };
+
+    ghost view = { λ l. take l.count l.all };
+
+    ghost invariant = { λ l. l.count ≤ 257 };
+}
+
+impl Labels {
+    pub fn none() -> Labels
+        ensures { result ≡ [] }
+    {
+        Labels {
+            all: [0; MOST_LABELS],
+            count: 0,
         }
     }
-    false
-}
 
-// Adds the labels that the rows name and that are not among the first n yet, and tells how many there are then.
-pub fn add_labels(rows: &[Row], labels: &mut [u16], n: usize) -> usize
-    requires room { n + length rows.now ≤ length labels.old }
-    requires labelled { AllLabelled rows.now }
-    requires real { Real labels.old n }
-    ensures low { n ≤ result }
-    ensures high { result ≤ n + length rows.now }
-    ensures kept { FrontKept labels.old labels.new n }
-    ensures all { Tried rows.now labels.new result }
-    ensures real { Real labels.new result }
-{
-    let mut count = n;
-    for row in rows {
-        count = add_label(labels, count, *row);
+    pub fn listed(&self) -> &[u16]
+        ensures { result.now ≡ self.now }
+    {
+        &self.all[..self.count]
     }
-    count
-}
 
-// Adds the label of a row that names one, if it is not among the first n yet.
-fn add_label(labels: &mut [u16], n: usize, row: Row) -> usize
-    requires room { n < length labels.old }
-    requires labelled { (l d : ℕ) → row ≡ Named l d → 0 < l }
-    requires real { Real labels.old n }
-    ensures low { n ≤ result }
-    ensures high { result ≤ n + 1 }
-    ensures kept { FrontKept labels.old labels.new n }
-    ensures there { (l d : ℕ) → row ≡ Named l d → Untried labels.new result l → ⊥ }
-    ensures real { Real labels.new result }
-{
-    let Row::Named(label, _) = row else {
-        return n;
-    };
-    if holds(labels, n, label) {
-        return n;
+    // Whether the label is listed.
+    fn has(&self, label: u16) -> bool
+        ensures { IsTrue result ↔ Contains self.now label }
+    {
+        self.listed().contains(&label)
     }
-    labels[n] = label;
-    n + 1
-}
 
-// A label that is not among the first n.
-pub fn other_label(labels: &[u16], n: usize) -> u16
-    requires { (n ≤ length labels.now) × (n ≤ 256) }
-    ensures real { Label result }
-    ensures other { Untried labels.now n result }
-{
-    for label in 1..258 {
-        if !holds(labels, n, label) {
-            return label;
+    // Lists the label last.
+    fn push(&mut self, label: u16)
+        requires { length self.old + 1 ≤ 257 }
+        ensures { self.new ≡ self.old ++ label ∷ [] }
+    {
+        self.all[self.count] = label;
+        self.count += 1;
+    }
+
+    // Lists the label, unless it is.
+    fn add(&mut self, label: u16)
+        requires { length self.old + 1 ≤ 257 }
+        ensures names { (l : ℕ) → Contains self.new l ↔ (Contains self.old l ⊎ (label ≡ l)) }
+        ensures few { length self.new ≤ length self.old + 1 }
+    {
+        if !self.has(label) {
+            self.push(label);
         }
     }
-    unreachable()
+
+    /// Lists the labels that the rows name.
+    pub fn add_named(&mut self, rows: &[Row])
+        requires { length self.old + length rows.now ≤ 257 }
+        ensures names { (l : ℕ) → Contains self.new l ↔ (Contains self.old l ⊎ Mentions rows.now l) }
+        ensures few { length self.new ≤ length self.old + length rows.now }
+    {
+        for row in rows {
+            if let Row::Named(label, _) = row {
+                self.add(*label);
+            }
+        }
+    }
+
+    /// Lists, last, a label that is not listed.
+    pub fn add_other(&mut self)
+        requires { length self.old + 1 ≤ 257 }
+        ensures { (l : ℕ) × (Label l × (Contains self.old l → ⊥) × (self.new ≡ self.old ++ l ∷ [])) }
+    {
+        for label in 1..258 {
+            if !self.has(label) {
+                self.push(label);
+                return;
+            }
+        }
+        unreachable()
+    }
 }

@@ -11,8 +11,8 @@ ghost use Rattle.sheet.specs.Held.{rows_of};
 ghost use Rattle.judge.specs.Judged.{Judged, Unbegun};
 
 use forest::Fault;
-pub use loss::Verdict;
 use loss::judge_by;
+pub use loss::{Loss, Verdict};
 use measure::Measure;
 use pair::Pair;
 use sheet::sound::SoundSheet;

@@ -1,20 +1,15 @@
 // Two sheets, and the labels that are tried for them.
-ghost use Rattle.std.specs.Prelude.{◌≤◌, take};
 ghost use Rattle.judge.specs.Labels.{Tries};
+ghost use Rattle.sheet.specs.Held.{rows_of};
 
+use crate::labels::Labels;
 use sheet::sound::SoundSheet;
 
-/// All the labels that two sheets name, and one that neither names.
-pub const MOST_LABELS: usize = 257;
-
-/// An old and a new sheet, with the labels to try. The label at `other` stands for all that neither sheet names.
-#[derive(Clone, Copy)]
+/// An old and a new sheet, with the labels to try: the last stands for all that neither sheet names.
+#[derive(Drop)]
 pub struct Pair {
     pub old: SoundSheet,
     pub new: SoundSheet,
-    pub labels: [u16; MOST_LABELS],
-    pub count: usize,
-    pub other: usize,
-    ghost short: { count ≤ 257 },
-    ghost tries: { ∥ Tries (take old.count old.rows) (take new.count new.rows) labels count other ∥₁ },
+    pub labels: Labels,
+    ghost tries: { ∥ Tries (rows_of old) (rows_of new) labels ∥₁ },
 }

@@ -4,8 +4,8 @@ ghost use Rattle.judge.specs.Pairs.{sorting_of, sides_of};
 ghost use Rattle.judge.specs.Pairing.{sorts};
 ghost use Rattle.std.proofs.Common.{rules, arith};
 
-use crate::labels::{add_labels, other_label};
-use crate::pair::{MOST_LABELS, Pair};
+use crate::labels::Labels;
+use crate::pair::Pair;
 use loss::Losing;
 use sheet::sound::SoundSheet;
 use survey::{Leaves, Sorting, Standings};
@@ -16,16 +16,14 @@ impl Pair {
         ensures old { result.old ≡ old.now }
         ensures new { result.new ≡ new.now }
     {
-        let mut labels = [0; MOST_LABELS];
-        let named = add_labels(old.rows(), &mut labels, 0);
-        let other = add_labels(new.rows(), &mut labels, named);
-        labels[other] = other_label(&labels, other);
+        let mut labels = Labels::none();
+        labels.add_named(old.rows());
+        labels.add_named(new.rows());
+        labels.add_other();
         Pair {
             old: *old,
             new: *new,
             labels,
-            count: other + 1,
-            other,
         }
     }
 }
@@ -63,12 +61,8 @@ impl Sorting for Pair {
         }
     }
 
-    fn count(&self) -> usize {
-        self.count
-    }
-
-    fn label(&self, i: usize) -> u16 {
-        self.labels[i]
+    fn labels(&self) -> &[u16] {
+        self.labels.listed()
     }
 }
 

@@ -2,12 +2,14 @@
 
 #![tactic(auto)]
 
+ghost use Rattle.std.specs.Prelude.{◌≤◌, length};
+
 mod print;
 mod sheets;
 
-use judge::{Sort, Verdict, judge};
-use measure::{Either, EitherCost, Filling, Flat, Length};
-use print::{print_fault, print_loss};
+use judge::{Sort, judge};
+use measure::{Either, Filling, Flat, Length};
+use print::{Printed, print_judged};
 use rows::ReadSheet;
 use sheet::sound::SoundSheet;
 use std::io;
@@ -42,203 +44,97 @@ fn blank<C>(cost: C) -> Sort<C> {
     }
 }
 
-/// Judges by length over the first elements of a list and the first bytes of a buffer, as many as are asked for.
-fn judge_length(
-    rt: &HostRuntime,
-    old: &[u8],
-    new: &[u8],
-    elements: &mut [Sort<u32>],
-    buffer: &mut [u8],
-) -> io::Result<()> {
-    match judge(&sheet(old), &sheet(new), &Length, elements, buffer) {
-        Ok(Verdict::AllAdmitted) => println!(rt; "all admitted"),
-        Ok(
-            Verdict::Lost {
-                cost,
-                length,
-                shown,
-            },
-        ) => {
-            print!(rt; "lost, cost {cost},")?;
-            print_loss(rt, length, shown, buffer)
-        }
-        Err(fault) => print_fault(rt, fault),
-    }
-}
-
-fn cut_length(
-    rt: &HostRuntime,
-    old: &[u8],
-    new: &[u8],
-    elements: &mut [Sort<u32>],
-    list: usize,
-    buffer: &mut [u8],
-    show: usize,
-) -> io::Result<()> {
-    if list > elements.len() || show > buffer.len() {
-        return println!(rt; "no room");
-    }
-    judge_length(rt, old, new, &mut elements[..list], &mut buffer[..show])
-}
-
-fn by_length(
-    rt: &HostRuntime,
-    name: &str,
-    old: &[u8],
-    new: &[u8],
+/// A new sheet that is judged against an old one, over so many elements of a list and bytes of a buffer.
+#[derive(Clone, Copy)]
+struct Case<'a> {
+    name: &'a str,
+    old: &'a [u8],
+    new: &'a [u8],
     list: usize,
     show: usize,
-) -> io::Result<()> {
-    let mut elements = [blank(0); LIST];
-    let mut buffer = [UNTOUCHED; SHOW];
-    print!(rt; "{name}: ")?;
-    cut_length(rt, old, new, &mut elements, list, &mut buffer, show)
+    ghost list_fits: { list ≤ 1025 },
+    ghost show_fits: { show ≤ 65536 },
 }
 
-fn by_filling(rt: &HostRuntime, name: &str, old: &[u8], new: &[u8]) -> io::Result<()> {
-    let mut elements = [blank((0, 0)); LIST];
-    let mut room = [UNTOUCHED; 4096];
-    print!(rt; "{name}, by filling: ")?;
-    match judge(
-        &sheet(old),
-        &sheet(new),
-        &Filling,
-        &mut elements[..1024],
-        &mut room,
-    ) {
-        Ok(Verdict::AllAdmitted) => println!(rt; "all admitted"),
-        Ok(
-            Verdict::Lost {
-                cost,
-                length,
-                shown,
-            },
-        ) => {
-            let (texts, bytes) = cost;
-            print!(rt; "lost, cost ({texts}, {bytes}),")?;
-            print_loss(rt, length, shown, &room)
+impl<'a> Case<'a> {
+    fn new(name: &'a str, old: &'a [u8], new: &'a [u8]) -> Self {
+        Case {
+            name,
+            old,
+            new,
+            list: 1024,
+            show: 4096,
         }
-        Err(fault) => print_fault(rt, fault),
+    }
+
+    fn with_list(mut self, list: usize) -> Self
+        requires { list ≤ 1025 }
+    {
+        self.list = list;
+        self
+    }
+
+    fn with_show(mut self, show: usize) -> Self
+        requires { show ≤ 65536 }
+    {
+        self.show = show;
+        self
+    }
+
+    /// Judges by the measure, and prints the case's line.
+    fn judge_by<M: Printed>(
+        &self,
+        rt: &HostRuntime,
+        measure: &M,
+        elements: &mut [Sort<M::Cost>],
+    ) -> io::Result<()>
+        requires { 1025 ≤ length elements.old }
+    {
+        let mut buffer = [UNTOUCHED; SHOW];
+        let name = self.name;
+        let kind = measure.name();
+        print!(rt; "{name}{kind}: ")?;
+        let show = &mut buffer[..self.show];
+        let judged = judge(
+            &sheet(self.old),
+            &sheet(self.new),
+            measure,
+            &mut elements[..self.list],
+            show,
+        );
+        print_judged(rt, measure, judged, show)
     }
 }
 
-/// By the measure with one cost for everything: that something is lost, and not what.
-fn by_flat(rt: &HostRuntime, name: &str, old: &[u8], new: &[u8]) -> io::Result<()> {
-    let mut elements = [blank(0); LIST];
-    let mut room = [UNTOUCHED; 4096];
-    print!(rt; "{name}, by one cost for everything: ")?;
-    match judge(
-        &sheet(old),
-        &sheet(new),
-        &Flat { only: 7 },
-        &mut elements[..1024],
-        &mut room,
-    ) {
-        Ok(Verdict::AllAdmitted) => println!(rt; "all admitted"),
-        Ok(Verdict::Lost { cost, .. }) => println!(rt; "lost, cost {cost}"),
-        Err(fault) => print_fault(rt, fault),
+/// Judges each case by length.
+fn by_length(rt: &HostRuntime, cases: &[Case]) -> io::Result<()> {
+    for case in cases {
+        case.judge_by(rt, &Length, &mut [blank(0); LIST])?;
     }
-}
-
-/// By one of two measures, taken as one.
-fn by_either(
-    rt: &HostRuntime,
-    name: &str,
-    old: &[u8],
-    new: &[u8],
-    measure: Either<Length, Filling>,
-) -> io::Result<()> {
-    let mut elements = [blank(EitherCost::OfOne(0)); LIST];
-    let mut room = [UNTOUCHED; 4096];
-    print!(rt; "{name}, by one of two: ")?;
-    match judge(
-        &sheet(old),
-        &sheet(new),
-        &measure,
-        &mut elements[..1024],
-        &mut room,
-    ) {
-        Ok(Verdict::AllAdmitted) => println!(rt; "all admitted"),
-        Ok(
-            Verdict::Lost {
-                cost,
-                length,
-                shown,
-            },
-        ) => {
-            match cost {
-                EitherCost::OfOne(bytes) => print!(rt; "lost, cost {bytes},")?,
-                EitherCost::OfOther((texts, bytes)) => print!(rt;
-                    "lost, cost ({texts}, {bytes}),"
-                )?,
-            }
-            print_loss(rt, length, shown, &room)
-        }
-        Err(fault) => print_fault(rt, fault),
-    }
+    Ok(())
 }
 
 /// The list's bounds, and losses told and shown.
 fn first_cases(rt: &HostRuntime) -> io::Result<()> {
-    by_length(rt, "N against E", sheets::N, sheets::E, 1024, 4096)?;
     by_length(
         rt,
-        "E against E, a list of 0",
-        sheets::E,
-        sheets::E,
-        0,
-        4096,
-    )?;
-    by_length(
-        rt,
-        "E against E, a list of 1",
-        sheets::E,
-        sheets::E,
-        1,
-        4096,
-    )?;
-    by_length(
-        rt,
-        "E against E, a list of 2",
-        sheets::E,
-        sheets::E,
-        2,
-        4096,
-    )?;
-    by_length(
-        rt,
-        "E against E, a list of 1025",
-        sheets::E,
-        sheets::E,
-        1025,
-        4096,
-    )?;
-    by_length(rt, "S2 against S1", sheets::S2, sheets::S1, 1024, 4096)?;
-    by_length(
-        rt,
-        "S2 against S1, a buffer of 16",
-        sheets::S2,
-        sheets::S1,
-        1024,
-        16,
-    )?;
-    by_length(
-        rt,
-        "S2 against S1, a buffer of 15",
-        sheets::S2,
-        sheets::S1,
-        1024,
-        15,
-    )?;
-    by_length(rt, "S1 against S2", sheets::S1, sheets::S2, 1024, 4096)?;
-    by_length(rt, "S2 against S3", sheets::S2, sheets::S3, 1024, 4096)?;
-    by_length(
-        rt,
-        "W against V, a label that neither names",
-        sheets::W,
-        sheets::V,
-        1024,
-        4096,
+        &[
+            Case::new("N against E", sheets::N, sheets::E),
+            Case::new("E against E, a list of 0", sheets::E, sheets::E).with_list(0),
+            Case::new("E against E, a list of 1", sheets::E, sheets::E).with_list(1),
+            Case::new("E against E, a list of 2", sheets::E, sheets::E).with_list(2),
+            Case::new("E against E, a list of 1025", sheets::E, sheets::E).with_list(1025),
+            Case::new("S2 against S1", sheets::S2, sheets::S1),
+            Case::new("S2 against S1, a buffer of 16", sheets::S2, sheets::S1).with_show(16),
+            Case::new("S2 against S1, a buffer of 15", sheets::S2, sheets::S1).with_show(15),
+            Case::new("S1 against S2", sheets::S1, sheets::S2),
+            Case::new("S2 against S3", sheets::S2, sheets::S3),
+            Case::new(
+                "W against V, a label that neither names",
+                sheets::W,
+                sheets::V,
+            ),
+        ],
     )
 }
 
@@ -246,116 +142,65 @@ fn first_cases(rt: &HostRuntime) -> io::Result<()> {
 fn more_cases(rt: &HostRuntime) -> io::Result<()> {
     by_length(
         rt,
-        "10[11 or 12] against 10[11] or 10[12]",
-        sheets::ONE,
-        sheets::TWO,
-        1024,
-        4096,
+        &[
+            Case::new(
+                "10[11 or 12] against 10[11] or 10[12]",
+                sheets::ONE,
+                sheets::TWO,
+            ),
+            Case::new(
+                "10[11] or 10[12] against 10[11 or 12]",
+                sheets::TWO,
+                sheets::ONE,
+            ),
+            Case::new("10[11 or 12] against 10[11]", sheets::ONE, sheets::HALF),
+            Case::new(
+                "texts or nothing, repeated, against texts",
+                sheets::LOOSE,
+                sheets::TEXTS,
+            ),
+            Case::new(
+                "texts against texts or nothing, repeated",
+                sheets::TEXTS,
+                sheets::LOOSE,
+            ),
+            Case::new(
+                "texts or nothing against one text, a buffer of 0",
+                sheets::LOOSE,
+                sheets::T,
+            )
+            .with_show(0),
+            Case::new("10[text] or 11[12[13]] against N", sheets::MIXED, sheets::N),
+        ],
     )?;
-    by_length(
-        rt,
-        "10[11] or 10[12] against 10[11 or 12]",
-        sheets::TWO,
-        sheets::ONE,
-        1024,
-        4096,
-    )?;
-    by_length(
-        rt,
-        "10[11 or 12] against 10[11]",
-        sheets::ONE,
-        sheets::HALF,
-        1024,
-        4096,
-    )?;
-    by_length(
-        rt,
-        "texts or nothing, repeated, against texts",
-        sheets::LOOSE,
-        sheets::TEXTS,
-        1024,
-        4096,
-    )?;
-    by_length(
-        rt,
-        "texts against texts or nothing, repeated",
-        sheets::TEXTS,
-        sheets::LOOSE,
-        1024,
-        4096,
-    )?;
-    by_length(
-        rt,
-        "texts or nothing against one text, a buffer of 0",
-        sheets::LOOSE,
-        sheets::T,
-        1024,
-        0,
-    )?;
-    by_length(
-        rt,
-        "10[text] or 11[12[13]] against N",
-        sheets::MIXED,
-        sheets::N,
-        1024,
-        4096,
-    )?;
-    by_filling(
-        rt,
-        "10[text] or 11[12[13]] against N",
-        sheets::MIXED,
-        sheets::N,
-    )?;
-    by_flat(
-        rt,
-        "10[text] or 11[12[13]] against N",
-        sheets::MIXED,
-        sheets::N,
-    )?;
-    by_flat(rt, "S1 against S2", sheets::S1, sheets::S2)?;
-    by_either(
-        rt,
-        "S2 against S1",
-        sheets::S2,
-        sheets::S1,
-        Either::One(Length),
-    )?;
-    by_either(
-        rt,
-        "S2 against S1",
-        sheets::S2,
-        sheets::S1,
-        Either::Other(Filling),
-    )
+    let mixed = Case::new("10[text] or 11[12[13]] against N", sheets::MIXED, sheets::N);
+    let less = Case::new("S1 against S2", sheets::S1, sheets::S2);
+    let more = Case::new("S2 against S1", sheets::S2, sheets::S1);
+    let one: Either<Length, Filling> = Either::One(Length);
+    let other: Either<Length, Filling> = Either::Other(Filling);
+    mixed.judge_by(rt, &Filling, &mut [blank((0, 0)); LIST])?;
+    mixed.judge_by(rt, &Flat { only: 7 }, &mut [blank(0); LIST])?;
+    less.judge_by(rt, &Flat { only: 7 }, &mut [blank(0); LIST])?;
+    more.judge_by(rt, &one, &mut [blank(Either::One(0)); LIST])?;
+    more.judge_by(rt, &other, &mut [blank(Either::One(0)); LIST])
 }
 
 /// Deep and long losses.
 fn large_cases(rt: &HostRuntime) -> io::Result<()> {
     by_length(
         rt,
-        "76 nested nodes",
-        sheets::FOURS,
-        sheets::NINETEEN,
-        1024,
-        4096,
-    )?;
-    by_length(rt, "65,528 bytes", sheets::TWICE13, sheets::N, 1024, SHOW)?;
-    by_length(
-        rt,
-        "65,528 bytes, a buffer of 65,527",
-        sheets::TWICE13,
-        sheets::N,
-        1024,
-        65527,
-    )?;
-    by_length(rt, "131,064 bytes", sheets::TWICE14, sheets::N, 1024, SHOW)?;
-    by_length(
-        rt,
-        "at the ceiling",
-        sheets::TOWER,
-        sheets::CHAIN,
-        1024,
-        SHOW,
+        &[
+            Case::new("76 nested nodes", sheets::FOURS, sheets::NINETEEN),
+            Case::new("65,528 bytes", sheets::TWICE13, sheets::N).with_show(SHOW),
+            Case::new(
+                "65,528 bytes, a buffer of 65,527",
+                sheets::TWICE13,
+                sheets::N,
+            )
+            .with_show(65527),
+            Case::new("131,064 bytes", sheets::TWICE14, sheets::N).with_show(SHOW),
+            Case::new("at the ceiling", sheets::TOWER, sheets::CHAIN).with_show(SHOW),
+        ],
     )
 }
 

@@ -1,7 +1,8 @@
 -- Calls at their bounds.
 use Rattle.std.proofs.Common.{◌≡◌, ℕ, ◌+◌, ◌<◌, ◌≤◌, min, true, false, ◌⊎◌, List, [], ◌∷◌, ◌++◌, length, take, drop, sym, refl, ap, ◌∙◌, subst, inl, inr, arith, length-append, length-drop}
-use mathlib.Core.Option.{Option, none, some}
-use lib.Seq.{drop-length}
+use Rattle.std.proofs.Math.Option.{Option, none, some}
+use Rattle.std.proofs.Math.Seq.{drop-length, take-append_seam}
+use Rattle.std.proofs.lemmas.List.{append-nil}
 use Rattle.std.proofs.lemmas.Slice.{drop-append-drop}
 use Rattle.forest.specs.Forest.{Forest, bytes_of}
 use Rattle.forest.specs.Reading.{StandsFor}
@@ -14,7 +15,6 @@ use Rattle.judge.specs.Judging.{Told, Lost, front}
 use Rattle.law.specs.Calls.{Held, numbered}
 use Rattle.law.specs.Bounds.{FilingBounds, FetchingBounds, ProposalBounds, MemoryBounds, LossShows, CallBounds}
 use Rattle.law.proofs.Lists.{numbered_within, rows_push, bytes_push}
-use Rattle.law.proofs.Counting.{take_front}
 
 one_forest : (body : List ℕ) (f g : Forest) → StandsFor body f → StandsFor body g → f ≡ g
 one_forest body f g p q = one_form f g (sym p.is_written ∙ q.is_written)
@@ -23,7 +23,7 @@ filing_bounds : FilingBounds
 filing_bounds =
     record {
       no_edition = λ n free body. inl (λ z. z, refl);
-      no_record = λ x n free body number place d. inr (tt, inl d);
+      no_record = λ x n free body r place d. inr (tt, inl d);
       not_of_newest = λ x n free body f s o. inr (tt, inr ((f, s), inl (λ r. o (subst (OfSheet x) (one_forest body r.forest f r.stands s) r.belongs), refl)));
       one_too_many = λ x free body r. inr (tt, inr ((r.forest, r.stands), inr (r, inl (λ p. let q = p.0 in omega arith, refl))));
       one_byte_short = λ x n free body r e. inr (tt, inr ((r.forest, r.stands), inr (r, inl (λ p. let q = p.1 in omega arith, refl))));
@@ -39,14 +39,10 @@ numbered_past {X} xs k l = go (numbered xs k) refl
   where
     go : (o : Option X) → numbered xs k ≡ o → numbered xs k ≡ none
     go none e = e
-    go (some x) e = let b = numbered_within xs k x e in let c = b.1 in absurd (let z : ⊥ = omega arith in z)
+    go (some x) e = let b = numbered_within xs k x e in let c = b.1 in absurd (omega arith)
 
 front_all : (w buffer : List ℕ) → length buffer ≡ length w → w ≡ front w buffer
-front_all w buffer e = sym (ap (λ (n : ℕ). w ++ drop n buffer) (sym e) ∙ ap (λ (v : List ℕ). w ++ v) (drop-length buffer) ∙ append_none w)
-  where
-    append_none : (v : List ℕ) → v ++ [] ≡ v
-    append_none [] = refl
-    append_none (x ∷ v) = ap (λ (u : List ℕ). x ∷ u) (append_none v)
+front_all w buffer e = sym (ap (λ (n : ℕ). w ++ drop n buffer) (sym e) ∙ ap (λ (v : List ℕ). w ++ v) (drop-length buffer) ∙ append-nil w)
 
 fetching_bounds : (s : Held) → FetchingBounds s
 fetching_bounds s =
@@ -67,8 +63,8 @@ proposal_bounds L costs sheet =
       first = λ given e. (((omega arith, omega arith), ((omega arith, omega arith), tt)), (refl, refl));
       more_sorts = λ given left old e m b. inr ((omega arith, omega arith), inr ((omega arith, omega arith), inl (rw e m, refl, b)));
       last = λ given left old e m k b. (((omega arith, omega arith), ((omega arith, omega arith), (rw e m, (k, tt)))), (refl, b));
-      loss = λ given left old cost size shown e m t.
-          inr ((omega arith, omega arith), inr ((omega arith, omega arith), inr (rw e m, inl (record { cost = cost; size = size; shown = shown; tells = refl; told = t }))));
+      loss = λ given left old l e m t.
+          inr ((omega arith, omega arith), inr ((omega arith, omega arith), inr (rw e m, inl (record { cost = l.cost; size = l.length; shown = l.shown; tells = refl; told = t }))));
     }
 
 memory_bounds : MemoryBounds
@@ -101,7 +97,7 @@ loss_shows costs old new = record { shown = shown; not_shown = not_shown }
           t.one,
           t.lost,
           t.cost_is,
-          rw (n, e) (take_front w (drop (length w) buffer)),
+          rw (n, e) (take-append_seam w (drop (length w) buffer)),
           rw (n, e) (drop-append-drop (length w) buffer w (length w) (omega arith) refl),
           omega arith,
           rw e (let x = length-append w (drop (length w) buffer) in let y = length-drop (length w) buffer in omega arith),

@@ -1,6 +1,7 @@
 -- Numbers count up, the newest edition reads every record, and no limit is passed.
-use Rattle.std.proofs.Common.{◌≡◌, ℕ, ◌<◌, ◌≤◌, ◌↔◌, List, [], ◌∷◌, ◌++◌, length, take, drop, Ok, Err, Result, sym, refl, ap, ◌∙◌, subst, inl, inr, arith}
-use mathlib.Core.Option.{Option, none, some}
+use Rattle.std.proofs.Common.{◌≡◌, ℕ, ◌<◌, ◌≤◌, ◌↔◌, List, [], ◌∷◌, length, take, drop, Ok, Err, Result, sym, refl, ap, ◌∙◌, subst, inl, inr, arith}
+use Rattle.std.proofs.Math.Option.{Option, none, some}
+use Rattle.std.proofs.Math.Seq.{take-append_seam}
 use Rattle.forest.specs.declared.fault.Fault.{Fault}
 use Rattle.rows.specs.Sheet.{Sheet}
 use Rattle.rows.specs.declared.row.Row.{Row}
@@ -17,12 +18,8 @@ same_item e = cc
 same_told : {a b : ℕ × ℕ} → ◌≡◌ {A = Result (ℕ × ℕ) Fault} (Ok a) (Ok b) → a ≡ b
 same_told e = cc
 
-pub take_front : (w ys : List ℕ) → take (length w) (w ++ ys) ≡ w
-take_front [] ys = refl
-take_front (x ∷ w) ys = ap (λ (v : List ℕ). x ∷ v) (take_front w ys)
-
 newest_numbered : (xs : List Sheet) (x : Sheet) → newest xs ≡ some x → numbered xs (length xs) ≡ some x
-newest_numbered [] x e = let z : ◌≡◌ {A = ℕ} 0 1 = cc in absurd (let y : ⊥ = omega arith in y)
+newest_numbered [] x e = absurd (cc)
 newest_numbered (y ∷ ys) x e =
     let t = numbered_there (y ∷ ys) (length (y ∷ ys)) (omega arith) (omega arith) in
     let l = last_numbered none (y ∷ ys) t.0 t.1 in
@@ -126,9 +123,9 @@ module _ {M C L : Type 0} (model : M → Costs C) (rows : List Row) (bytes : Lis
       fetch : (k : ℕ) (buffer : List ℕ) (told : ℕ × ℕ) (buffer' : List ℕ) → Answered model rows bytes h (fetched k buffer (Ok told) buffer') → RecordOfNewest (newest_in h) (take told.0 buffer')
       fetch k buffer told buffer' (inl (w, e, a, inl g)) =
           let n : told.0 ≡ length w = ap (λ (x : ℕ × ℕ). x.0) (same_told g.1) in
-          subst (λ (v : List ℕ). RecordOfNewest (newest_in h) v) (sym (ap (λ (m : ℕ). take m buffer') n ∙ ap (take (length w)) g.2 ∙ take_front w (drop (length w) buffer))) (acc k w e a)
-      fetch k buffer told buffer' (inl (w, e, a, inr g)) = let z : ◌≡◌ {A = ℕ} 0 1 = cc g.1 in absurd (let y : ⊥ = omega arith in y)
-      fetch k buffer told buffer' (inr g) = let z : ◌≡◌ {A = ℕ} 0 1 = cc g.1.0 in absurd (let y : ⊥ = omega arith in y)
+          subst (λ (v : List ℕ). RecordOfNewest (newest_in h) v) (sym (ap (λ (m : ℕ). take m buffer') n ∙ ap (take (length w)) g.2 ∙ take-append_seam w (drop (length w) buffer))) (acc k w e a)
+      fetch k buffer told buffer' (inl (w, e, a, inr g)) = absurd g.1
+      fetch k buffer told buffer' (inr g) = absurd g.1.0
 
       giv : (e : Event M C L) → Answered model rows bytes h e → GivenReads h e
       giv (proposed m sheet given answer left) a = tt

@@ -1,7 +1,10 @@
 -- A call has one answer.
+use Rattle.std.specs.Prelude.{IsErrAnd}
 use Rattle.std.proofs.Common.{◌≡◌, ℕ, List, length, Ok, Err, Result, sym, refl, ap, ◌∙◌, subst, inl, inr, arith}
-use mathlib.Core.Option.{Option, none, some}
+use Rattle.std.proofs.Math.Option.{Option, none, some}
 use Rattle.forest.specs.declared.fault.Fault.{Fault}
+use Rattle.forest.specs.Refusals.{told}
+use Rattle.forest.proofs.Numbers.{same_fault}
 use Rattle.rows.specs.Sheet.{Sheet}
 use Rattle.rows.specs.declared.row.Row.{Row}
 use Rattle.measure.specs.Measure.{Costs}
@@ -16,12 +19,18 @@ one_filing : (x : Option Sheet) (records free : ℕ) (body : List ℕ) (a b : Re
 one_filing x records free body (Ok k) b f g = ap Ok f.decided.1 ∙ sym (g.accepted f.decided.0)
 one_filing x records free body (Err e) b f g = sym (g.refused e f.decided)
 
+-- answers that are refusals of one number and place are one
+same_refusal_told : {A : Type 0} (t : ℕ × ℕ) (a b : Result A Fault) → IsErrAnd a (λ f. told f ≡ t) → IsErrAnd b (λ f. told f ≡ t) → a ≡ b
+same_refusal_told t (Ok x) b p q = absurd p
+same_refusal_told t (Err f) (Ok y) p q = absurd q
+same_refusal_told t (Err f) (Err g) p q = ap Err (same_fault f g (p ∙ sym q))
+
 one_giving : (o : Option Kept) (buffer : List ℕ) (a b : Result (ℕ × ℕ) Fault) (x y : List ℕ) → Giving o buffer a x → Giving o buffer b y → (a ≡ b) × (x ≡ y)
-one_giving none buffer a b x y f g = (f.0 ∙ sym g.0, f.1 ∙ sym g.1)
+one_giving none buffer a b x y f g = (same_refusal_told (34, 0) a b f.0 g.0, f.1 ∙ sym g.1)
 one_giving (some r) buffer a b x y (inl f) (inl g) = (f.1 ∙ sym g.1, f.2 ∙ sym g.2)
-one_giving (some r) buffer a b x y (inl f) (inr g) = let p = f.0 in let q = g.0 in absurd (let z : ⊥ = omega arith in z)
-one_giving (some r) buffer a b x y (inr f) (inl g) = let p = f.0 in let q = g.0 in absurd (let z : ⊥ = omega arith in z)
-one_giving (some r) buffer a b x y (inr f) (inr g) = (f.1 ∙ sym g.1, f.2 ∙ sym g.2)
+one_giving (some r) buffer a b x y (inl f) (inr g) = let p = f.0 in let q = g.0 in absurd (omega arith)
+one_giving (some r) buffer a b x y (inr f) (inl g) = let p = f.0 in let q = g.0 in absurd (omega arith)
+one_giving (some r) buffer a b x y (inr f) (inr g) = (same_refusal_told (35, 0) a b f.1 g.1, f.2 ∙ sym g.2)
 
 module _ {C L : Type 0} (costs : Costs C) (sheet : Sheet) (given : Lent L) where
   abbrev FailsAt : (left : Lent L) → Option Sheet → ℕ → ℕ → Declined C → Type 0
@@ -70,7 +79,7 @@ module _ {C L : Type 0} (costs : Costs C) (sheet : Sheet) (given : Lent L) where
         (both_accepted (ap (λ (l : Lent L). l.show) (p.1.1 ∙ sym q.1.1)) (λ _. p.1.1 ∙ sym q.1.1))
     accepts_alike (some old) k j p q =
         subst (λ (n : ℕ). Alike costs (some old) (Ok k) (Ok n) left left') (p.1.0 ∙ sym q.1.0)
-        (both_accepted (p.1.1 ∙ sym q.1.1) (λ e. let z : ◌≡◌ {A = ℕ} 0 1 = cc in absurd (let y : ⊥ = omega arith in y)))
+        (both_accepted (p.1.1 ∙ sym q.1.1) (λ e. absurd (cc)))
 
     pub alike : (x : Option Sheet) (a b : Result ℕ (Declined C)) → Proposing costs sheet given left x editions free a → Proposing costs sheet given left' x editions free b → Alike costs x a b left left'
     alike x (Ok k) (Ok j) p q = accepts_alike x k j p q

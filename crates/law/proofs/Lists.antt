@@ -1,6 +1,6 @@
 -- The last item and the item of a number, with one more at the end.
 use Rattle.std.proofs.Common.{◌≡◌, ℕ, zero, suc, ◌+◌, ◌-◌, ◌<◌, ◌≤◌, min, ◌⊎◌, List, [], ◌∷◌, ◌++◌, length, drop, sym, refl, ◌∙◌, inl, inr, arith}
-use mathlib.Core.Option.{Option, some}
+use Rattle.std.proofs.Math.Option.{Option, some}
 use Rattle.std.proofs.lemmas.List.{length-drop, length_push}
 use Rattle.rows.specs.Sheet.{Sheet}
 use Rattle.law.specs.Calls.{Kept, last_or, numbered, rows_of, bytes_in}
@@ -26,34 +26,34 @@ left_over xs taken limit = let e = length-drop taken xs in omega arith
 
 -- A number that an item has is from 1 to their count.
 pub numbered_within : {X : Type 0} (xs : List X) (k : ℕ) (x : X) → numbered xs k ≡ some x → (0 < k) × (k ≤ length xs)
-numbered_within [] k x e = let z : ◌≡◌ {A = ℕ} 0 1 = cc in (omega arith, omega arith)
-numbered_within (y ∷ ys) zero x e = let z : ◌≡◌ {A = ℕ} 0 1 = cc in (omega arith, omega arith)
+numbered_within [] k x e = absurd (cc)
+numbered_within (y ∷ ys) zero x e = absurd (cc)
 numbered_within (y ∷ ys) (suc zero) x e = (omega arith, omega arith)
 numbered_within (y ∷ ys) (suc (suc k)) x e = let i = numbered_within ys (suc k) x e in (omega arith, omega (arith, i.1))
 
 pub numbered_there : {X : Type 0} (xs : List X) (k : ℕ) → 0 < k → k ≤ length xs → (x : X) × (numbered xs k ≡ some x)
-numbered_there [] k p q = absurd (let z : ⊥ = omega arith in z)
-numbered_there (y ∷ ys) zero p q = absurd (let z : ⊥ = omega arith in z)
+numbered_there [] k p q = absurd (omega arith)
+numbered_there (y ∷ ys) zero p q = absurd (omega arith)
 numbered_there (y ∷ ys) (suc zero) p q = (y, refl)
 numbered_there (y ∷ ys) (suc (suc k)) p q = numbered_there ys (suc k) (omega arith) (omega arith)
 
 pub numbered_old : {X : Type 0} (xs : List X) (x : X) (k : ℕ) → k ≤ length xs → numbered (xs ++ x ∷ []) k ≡ numbered xs k
 numbered_old [] x zero q = refl
-numbered_old [] x (suc k) q = absurd (let z : ⊥ = omega arith in z)
+numbered_old [] x (suc k) q = absurd (omega arith)
 numbered_old (y ∷ ys) x zero q = refl
 numbered_old (y ∷ ys) x (suc zero) q = refl
 numbered_old (y ∷ ys) x (suc (suc k)) q = numbered_old ys x (suc k) (omega arith)
 
 pub numbered_new : {X : Type 0} (xs : List X) (x : X) (k : ℕ) → k ≡ length xs + 1 → numbered (xs ++ x ∷ []) k ≡ some x
-numbered_new [] x zero e = absurd (let z : ⊥ = omega arith in z)
+numbered_new [] x zero e = absurd (omega arith)
 numbered_new [] x (suc zero) e = refl
-numbered_new [] x (suc (suc k)) e = absurd (let z : ⊥ = omega arith in z)
-numbered_new (y ∷ ys) x zero e = absurd (let z : ⊥ = omega arith in z)
-numbered_new (y ∷ ys) x (suc zero) e = absurd (let z : ⊥ = omega arith in z)
+numbered_new [] x (suc (suc k)) e = absurd (omega arith)
+numbered_new (y ∷ ys) x zero e = absurd (omega arith)
+numbered_new (y ∷ ys) x (suc zero) e = absurd (omega arith)
 numbered_new (y ∷ ys) x (suc (suc k)) e = numbered_new ys x (suc k) (omega arith)
 
 pub last_numbered : {X : Type 0} (o : Option X) (xs : List X) (x : X) → numbered xs (length xs) ≡ some x → last_or o xs ≡ some x
-last_numbered o [] x e = let z : ◌≡◌ {A = ℕ} 0 1 = cc in absurd (let y : ⊥ = omega arith in y)
+last_numbered o [] x e = absurd (cc)
 last_numbered o (y ∷ []) x e = e
 last_numbered o (y ∷ (z ∷ zs)) x e = last_numbered (some y) (z ∷ zs) x e
 

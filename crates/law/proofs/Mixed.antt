@@ -1,10 +1,9 @@
 -- A step by one measure is a step by a combination that holds it.
 use Rattle.std.proofs.Common.{◌≡◌, ℕ, Bool, List, Ok, Err, Result, sym, refl, ap, ◌∙◌, subst, inl, inr}
-use mathlib.Core.Option.{Option, none, some}
+use Rattle.std.proofs.Math.Option.{Option, none, some}
 use Rattle.forest.specs.Forest.{Forest}
 use Rattle.rows.specs.Sheet.{Sheet}
 use Rattle.measure.specs.declared.either.Either.TheVariants.{One, Other}
-use Rattle.measure.specs.declared.either.EitherCost.TheVariants.{OfOne, OfOther}
 use Rattle.measure.specs.Measure.{Costs, cost_of}
 use Rattle.measure.specs.Eithers.{either_costs, CostsAlike}
 use Rattle.law.specs.declared.Declined.{Declined}
@@ -20,7 +19,7 @@ reason_as f (loss n c size shown) = loss n (f c) size shown
 
 reason_is : {C D : Type 0} (f : C → D) (d : Declined C) → reason (declined_as f d) ≡ reason_as f (reason d)
 reason_is f (Refused x) = refl
-reason_is f (Loses c n shown) = refl
+reason_is f (Loses l) = refl
 
 after_is : {C D : Type 0} (f : C → D) (s : Held) (sheet : Sheet) (answer : Result ℕ (Declined C)) → after_proposing s sheet answer ≡ after_proposing s sheet (answered_as f answer)
 after_is f s sheet (Ok k) = refl
@@ -71,12 +70,12 @@ module _ {C D L : Type 0} (f : C → D) (p : Costs C) (q : Costs D) (same : (g :
 pub mixes : {A B C D : Type 0} (L : Type 0) (p : A → Costs C) (q : B → Costs D) → CostsAlike p q → Mixes L p q
 mixes {A} {B} {C} {D} L p q alike = record { one = one; other = other }
   where
-    one : (e : Event A C L) (s s' : Held) → Step p e s s' → Step (either_costs p q) (called_as One OfOne e) s s'
-    one (proposed m sheet given answer left) s s' r = proposed_as OfOne (p m) (either_costs p q (One m)) (alike.as_one m) (λ a b le. le) sheet given left s s' answer r
+    one : (e : Event A C L) (s s' : Held) → Step p e s s' → Step (either_costs p q) (called_as One One e) s s'
+    one (proposed m sheet given answer left) s s' r = proposed_as One (p m) (either_costs p q (One m)) (alike.as_one m) (λ a b le. le) sheet given left s s' answer r
     one (filed body answer) s s' r = r
     one (fetched k buffer answer buffer') s s' r = r
 
-    other : (e : Event B D L) (s s' : Held) → Step q e s s' → Step (either_costs p q) (called_as Other OfOther e) s s'
-    other (proposed m sheet given answer left) s s' r = proposed_as OfOther (q m) (either_costs p q (Other m)) (alike.as_other m) (λ a b le. le) sheet given left s s' answer r
+    other : (e : Event B D L) (s s' : Held) → Step q e s s' → Step (either_costs p q) (called_as Other Other e) s s'
+    other (proposed m sheet given answer left) s s' r = proposed_as Other (q m) (either_costs p q (Other m)) (alike.as_other m) (λ a b le. le) sheet given left s s' answer r
     other (filed body answer) s s' r = r
     other (fetched k buffer answer buffer') s s' r = r

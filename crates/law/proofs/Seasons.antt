@@ -1,6 +1,8 @@
 -- Every season is lawful.
+use Rattle.forest.proofs.Numbers.{same_fault}
+use Rattle.forest.specs.Refusals.{number_of}
 use Rattle.std.proofs.Common.{◌≡◌, ℕ, ◌+◌, ◌-◌, ◌<◌, ◌≤◌, min, ◌↔◌, List, [], ◌∷◌, ◌++◌, length, drop, Ok, Err, Result, sym, refl, ap, ◌∙◌, subst, inl, inr, arith}
-use mathlib.Core.Option.{Option, none, some}
+use Rattle.std.proofs.Math.Option.{Option, none, some}
 use Rattle.std.proofs.lemmas.List.{length_push}
 use Rattle.forest.specs.declared.fault.Fault.{Fault}
 use Rattle.forest.proofs.Unique.{one_refusal, not_both}
@@ -9,7 +11,7 @@ use Rattle.rows.specs.declared.row.Row.{Row}
 use Rattle.measure.specs.Measure.{Costs}
 use Rattle.law.specs.declared.Declined.{Declined}
 use Rattle.judge.specs.Judging.{AllKept}
-use Rattle.law.specs.Calls.{Kept, Held, newest, numbered, free_rows, free_bytes, Lent, Passed, Fails, Check, Filing, Giving, Proposing, RecordOf, RecordOfNewest, DeclinedForLoss, earlier_checks, sorts_fit, file_checks, propose_checks, fault, unless, reading}
+use Rattle.law.specs.Calls.{Kept, Held, newest, numbered, free_rows, free_bytes, Lent, Passed, Fails, Check, Filing, Giving, Proposing, RecordOf, RecordOfNewest, DeclinedForLoss, earlier_checks, sorts_fit, file_checks, propose_checks, unless, reading}
 use Rattle.law.specs.Law.{Event, proposed, filed, fetched, History, Step, Run, newest_in, editions_in, rows_taken, records_in, bytes_taken, Accepted, Fetching, FilingLaw, SomeLost, LossTold, ProposalLaw, Answered, Standing, Lawful, SeasonLaw}
 use Rattle.law.proofs.Lists.{numbered_within, numbered_there, numbered_cases, last_numbered, left_over}
 use Rattle.law.proofs.Told.{run_counted, sheets, bodies, told, sheets_long, sheets_rows, bodies_long, bodies_bytes, newest_is, told_is, accepted_is, accepted_at, edition_is, edition_at}
@@ -88,12 +90,12 @@ one_failure (c ∷ cs) d e x (inr f) (inl g) = absurd (x.0.apart f.0 e g)
 one_failure (c ∷ cs) d e x (inr f) (inr g) = one_failure cs d e x.1 f.1 g.1
 
 unless_exact : (n : ℕ) (p : Type 0) → Exact (unless n p)
-unless_exact n p = record { apart = λ a f r. r.0 a; one = λ f g r s. r.1 ∙ sym s.1 }
+unless_exact n p = record { apart = λ a f r. r.0 a; one = λ f g r s. same_fault f g (r.1 ∙ sym s.1) }
 
 reading_exact : (body : List ℕ) → Exact (reading body)
 reading_exact body = record {
-  apart = λ s f d. not_both body s.0 f.number f.place s.1 d;
-  one = λ f g d e. let u = one_refusal body f.number f.place g.number g.place d e in ap (λ (n : ℕ). fault n f.place) u.0 ∙ ap (λ (p : ℕ). fault g.number p) u.1;
+  apart = λ s f d. not_both body s.0 (number_of f.refusal) f.place s.1 d;
+  one = λ f g d e. let u = one_refusal body (number_of f.refusal) f.place (number_of g.refusal) g.place d e in same_fault f g (ap (λ (n : ℕ). (n, f.place)) u.0 ∙ ap (λ (p : ℕ). (number_of g.refusal, p)) u.1);
 }
 
 pub filing_lawful : (x : Option Sheet) (records free : ℕ) (body : List ℕ) (answer : Result ℕ Fault) → Filing x records free body answer → FilingLaw x records free body answer
@@ -132,7 +134,7 @@ module _ {M C L : Type 0} (model : M → Costs C) where
 
   module _ (rows : List Row) (bytes : List ℕ) where
     all_stand : (h : History M C L) (s : Held) → Run model rows bytes h s → AllStand s
-    all_stand [] s r = subst AllStand (sym r) (λ n k e. let z : ◌≡◌ {A = ℕ} 0 1 = cc in absurd (let y : ⊥ = omega arith in y))
+    all_stand [] s r = subst AllStand (sym r) (λ n k e. absurd (cc))
     all_stand (e ∷ h) s r = standing_more e r.0 s r.1.1 (all_stand h r.0 r.1.0)
 
     stands_at : (h : History M C L) (s : Held) → Run model rows bytes h s → (k : ℕ) (w : List ℕ) (e : ℕ) → Accepted h k w e → Stands (sheets h) (record { bytes = w; edition = e })
@@ -149,7 +151,7 @@ module _ {M C L : Type 0} (model : M → Costs C) where
 
     fetching : (h : History M C L) (s : Held) → Run model rows bytes h s → (k : ℕ) (buffer : List ℕ) (answer : Result (ℕ × ℕ) Fault) (buffer' : List ℕ) → (o : Option Kept) → numbered (bodies h) k ≡ o → Giving o buffer answer buffer' → Fetching h k buffer answer buffer'
     fetching h s r k buffer answer buffer' none e g =
-        inr ((λ w i a. let f = accepted_is h (run_counted model rows bytes h s r) k w i a in let z : ◌≡◌ {A = ℕ} 0 1 = cc in let y : ⊥ = omega arith in y), g)
+        inr ((λ w i a. let f = accepted_is h (run_counted model rows bytes h s r) k w i a in cc), g)
     fetching h s r k buffer answer buffer' (some x) e g = inl (x.bytes, x.edition, accepted_at h (run_counted model rows bytes h s r) k x e, g)
 
     filing : (h : History M C L) (body : List ℕ) (answer : Result ℕ Fault) → Filing (newest (sheets h)) (length (bodies h)) (free_bytes (told rows bytes h)) body answer → Filing (newest_in h) (records_in h) (min (length bytes) 65536 - bytes_taken h) body answer
@@ -178,7 +180,7 @@ module _ {M C L : Type 0} (model : M → Costs C) where
 
         loses : (answer : Result ℕ (Declined C)) → Proposing (model m) sheet given left (some old) editions free answer → LossTold (model m) sheet given left editions free old answer ↔ SomeLost (model m) sheet given left editions free old
         loses (Ok k) p =
-            ((λ d. let e = d.1 in let z : ◌≡◌ {A = ℕ} 0 1 = cc in absurd (let y : ⊥ = omega arith in y)), (λ l. absurd (l.1.not_of_new (p.0.1.1.1.0 l.0 l.1.proper l.1.of_old))))
+            ((λ d. let e = d.1 in absurd (cc)), (λ l. absurd (l.1.not_of_new (p.0.1.1.1.0 l.0 l.1.proper l.1.of_old))))
         loses (Err d) p = let t = only_loss d p in ((λ _. (t.told.one, t.told.lost)), (λ _. (d, refl, t)))
 
         goes_through : (answer : Result ℕ (Declined C)) → Proposing (model m) sheet given left (some old) editions free answer → (SomeLost (model m) sheet given left editions free old → ⊥) → answer ≡ Ok (editions + 1)

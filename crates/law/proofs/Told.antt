@@ -1,6 +1,6 @@
 -- A register holds what the calls so far tell.
 use Rattle.std.proofs.Common.{◌≡◌, ℕ, ◌+◌, List, [], ◌∷◌, ◌++◌, length, drop, Ok, Err, sym, refl, ap, ◌∙◌, inl, inr, arith}
-use mathlib.Core.Option.{none, some}
+use Rattle.std.proofs.Math.Option.{none, some}
 use Rattle.std.proofs.lemmas.List.{length_push, drop-drop}
 use Rattle.rows.specs.Sheet.{Sheet}
 use Rattle.rows.specs.declared.row.Row.{Row}
@@ -131,7 +131,7 @@ module _ {M C L : Type 0} where
   accepted_is (fetched n buffer answer buffer' ∷ h) r k w e a = accepted_is h r.1 k w e a
 
   pub accepted_at : (h : History M C L) → Counted h → (k : ℕ) (x : Kept) → numbered (bodies h) k ≡ some x → Accepted h k x.bytes x.edition
-  accepted_at [] r k x e = let z : ◌≡◌ {A = ℕ} 0 1 = cc in absurd (let y : ⊥ = omega arith in y)
+  accepted_at [] r k x e = absurd (cc)
   accepted_at (proposed m sheet given answer left ∷ h) r k x e = accepted_at h r.1 k x e
   accepted_at (filed body (Ok n) ∷ h) r k x e =
       let new : Kept = record { bytes = body; edition = length (sheets h) } in
@@ -156,7 +156,7 @@ module _ {M C L : Type 0} where
   edition_is (fetched n buffer answer buffer' ∷ h) r k x a = edition_is h r.1 k x a
 
   pub edition_at : (h : History M C L) → Counted h → (k : ℕ) (x : Sheet) → numbered (sheets h) k ≡ some x → Edition h k x
-  edition_at [] r k x e = let z : ◌≡◌ {A = ℕ} 0 1 = cc in absurd (let y : ⊥ = omega arith in y)
+  edition_at [] r k x e = absurd (cc)
   edition_at (proposed m sheet given (Ok n) left ∷ h) r k x e =
       elim (numbered_cases (sheets h) sheet k x e) [
         | inl old ↦ inr (edition_at h r.1 k x old)

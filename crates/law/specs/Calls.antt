@@ -1,5 +1,6 @@
 -- What a register holds, and the one outcome of each of its calls for every input.
-use Rattle.std.specs.Prelude.{◌≡◌, ℕ, zero, suc, ◌+◌, ◌-◌, ◌<◌, ◌≤◌, min, Bool, ◌⊎◌, List, [], ◌∷◌, ◌++◌, length, drop, Ok, Err, Result}
+use Rattle.forest.specs.Refusals.{number_of, told}
+use Rattle.std.specs.Prelude.{◌≡◌, ℕ, zero, suc, ◌+◌, ◌-◌, ◌<◌, ◌≤◌, min, Bool, ◌⊎◌, List, [], ◌∷◌, ◌++◌, length, drop, Ok, Err, Result, IsErrAnd}
 use Rattle.std.proofs.Math.Option.{Option, none, some}
 use Rattle.forest.specs.declared.fault.Fault.{Fault}
 use Rattle.forest.specs.Forest.{Forest}
@@ -100,12 +101,9 @@ abbrev pub Decided : {A D : Type 0} → List (Check D) → Result A D → (A →
 Decided checks (Ok a) accepted = Passed checks × accepted a
 Decided checks (Err d) accepted = Fails checks d
 
-abbrev pub fault : ℕ → ℕ → Fault
-fault n p = record { number = n; place = p }
-
 -- Refusal n, at place 0, where p is not so.
 abbrev pub unless : ℕ → Type 0 → Check Fault
-unless n p = record { passes = p; refuses = λ f. (p → ⊥) × (f ≡ fault n 0) }
+unless n p = record { passes = p; refuses = λ f. (p → ⊥) × (told f ≡ (n, 0)) }
 
 -- File.
 
@@ -125,7 +123,7 @@ RecordOfNewest (some x) body = RecordOf x body
 
 -- Refusals 3 to 8, each with its place, where the body is no record.
 abbrev pub reading : List ℕ → Check Fault
-reading body = record { passes = (f : Forest) × StandsFor body f; refuses = λ r. Due body r.number r.place }
+reading body = record { passes = (f : Forest) × StandsFor body f; refuses = λ r. Due body (number_of r.refusal) r.place }
 
 -- By the newest edition, the number of records held and of bytes free.
 abbrev pub file_checks : Option Sheet → ℕ → ℕ → List ℕ → List (Check Fault)
@@ -152,10 +150,10 @@ pub record Filed (s : Held) (body : List ℕ) (answer : Result ℕ Fault) (s' : 
 -- The record of the number is copied to the buffer's front, and its length and edition are told;
 -- 34 where there is none, 35 where the buffer is shorter, and then the buffer is left as it was.
 abbrev pub Giving : Option Kept → List ℕ → Result (ℕ × ℕ) Fault → List ℕ → Type 0
-Giving none buffer answer buffer' = (answer ≡ Err (fault 34 0)) × (buffer' ≡ buffer)
+Giving none buffer answer buffer' = IsErrAnd answer (λ f. told f ≡ (34, 0)) × (buffer' ≡ buffer)
 Giving (some r) buffer answer buffer' =
     ((length r.bytes ≤ length buffer) × (answer ≡ Ok (length r.bytes, r.edition)) × (buffer' ≡ front r.bytes buffer))
-    ⊎ ((length buffer < length r.bytes) × (answer ≡ Err (fault 35 0)) × (buffer' ≡ buffer))
+    ⊎ ((length buffer < length r.bytes) × IsErrAnd answer (λ f. told f ≡ (35, 0)) × (buffer' ≡ buffer))
 
 abbrev pub Fetched : Held → ℕ → List ℕ → Result (ℕ × ℕ) Fault → List ℕ → Type 0
 Fetched s k buffer answer buffer' = Giving (numbered s.kept k) buffer answer buffer'
@@ -177,8 +175,8 @@ pub data Reason (C : Type 0) : Type 0 where
   loss : (number : ℕ) (cost : C) (size : ℕ) (shown : Bool) → Reason C
 
 abbrev pub reason : {C : Type 0} → Declined C → Reason C
-reason (Refused f) = refusal f.number f.place
-reason (Loses c n shown) = loss 36 c n shown
+reason (Refused f) = refusal (number_of f.refusal) f.place
+reason (Loses l) = loss 36 l.cost l.length l.shown
 
 module _ {C L : Type 0} (costs : Costs C) (sheet : Sheet) (given left : Lent L) where
   -- 20 and 30 come before judging: what was lent is left as it was.

@@ -2,7 +2,6 @@
 -- as one of two kinds together, its told cost as a cost of either kind.
 use Rattle.std.specs.Prelude.{ℕ, Ok, Err, Result}
 use Rattle.measure.specs.declared.either.Either.TheVariants.{One, Other}
-use Rattle.measure.specs.declared.either.EitherCost.TheVariants.{OfOne, OfOther}
 use Rattle.measure.specs.Measure.{Costs}
 use Rattle.measure.specs.Eithers.{either_costs}
 use Rattle.law.specs.declared.Declined.{Declined}
@@ -13,7 +12,7 @@ use Rattle.law.specs.Law.{Event, proposed, filed, fetched, Step}
 -- The same answer with another cost.
 abbrev pub declined_as : {C D : Type 0} → (C → D) → Declined C → Declined D
 declined_as f (Refused x) = Refused x
-declined_as f (Loses c n shown) = Loses (f c) n shown
+declined_as f (Loses l) = Loses (record { cost = f l.cost; length = l.length; shown = l.shown })
 
 abbrev pub answered_as : {C D : Type 0} → (C → D) → Result ℕ (Declined C) → Result ℕ (Declined D)
 answered_as f (Ok k) = Ok k
@@ -26,5 +25,5 @@ called_as g f (filed body answer) = filed body answer
 called_as g f (fetched k buffer answer buffer') = fetched k buffer answer buffer'
 
 pub record Mixes {A B C D : Type 0} (L : Type 0) (p : A → Costs C) (q : B → Costs D) : Type 0 where
-  pub one : (e : Event A C L) (s s' : Held) → Step p e s s' → Step (either_costs p q) (called_as One OfOne e) s s'
-  pub other : (e : Event B D L) (s s' : Held) → Step q e s s' → Step (either_costs p q) (called_as Other OfOther e) s s'
+  pub one : (e : Event A C L) (s s' : Held) → Step p e s s' → Step (either_costs p q) (called_as One One e) s s'
+  pub other : (e : Event B D L) (s s' : Held) → Step q e s s' → Step (either_costs p q) (called_as Other Other e) s s'

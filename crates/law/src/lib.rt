@@ -11,15 +11,16 @@ ghost use Rattle.law.specs.Law.{SeasonLaw};
 ghost use Rattle.law.specs.Mixing.{Mixes};
 
 use forest::Fault;
+use loss::Loss;
 use measure::{Measure, either_costs_alike};
 
 /// Why a proposal is declined.
-#[derive(Clone, Copy)]
+#[derive(Clone, Copy, PartialEq, Eq, Debug)]
 pub enum Declined<C> {
     /// A refusal, with its number and place.
     Refused(Fault),
-    /// Refusal 36: the cost and the length of a cheapest forest that would be lost, and whether it is shown.
-    Loses { cost: C, length: u32, shown: bool },
+    /// Refusal 36: a cheapest forest that would be lost.
+    Loses(Loss<C>),
 }
 
 /// A refusal of judging goes up unaltered.

@@ -1,4 +1,5 @@
 -- What a judgement by sorts answers, each case by its number and values.
+use Rattle.forest.specs.Refusals.{told}
 use Rattle.std.specs.Prelude.{◌≡◌, ℕ, ◌<◌, ◌≤◌, min, Bool, ◌⊎◌, List, length, Ok, Err, Result}
 use Rattle.forest.specs.declared.fault.Fault.{Fault}
 use Rattle.forest.specs.Forest.{Forest, bytes_of}
@@ -22,7 +23,7 @@ Few s n = (forest : ℕ → Forest) → ((i : ℕ) → i ≤ n → s.counts (for
     → ((i j : ℕ) → i ≤ n → j ≤ n → (σ : Standings) → s.has (forest i) σ → s.has (forest j) σ → i ≡ j) → ⊥
 
 -- A lost forest than which no lost forest costs less, its cost, its length up to the ceiling, and whether it is shown.
-pub record Loss {C : Type 0} (s : Model) (sides : Sides) (m : Costs C) (before after : List ℕ) (cost : C) (size : ℕ) (shown : Bool) : Type 0 where
+pub record CheapestLost {C : Type 0} (s : Model) (sides : Sides) (m : Costs C) (before after : List ℕ) (cost : C) (size : ℕ) (shown : Bool) : Type 0 where
   pub forest : Forest
   pub counted : s.counts forest
   pub is_lost : sides.lost forest
@@ -34,14 +35,14 @@ pub record Loss {C : Type 0} (s : Model) (sides : Sides) (m : Costs C) (before a
 -- The answer, with what the show buffer held before and holds after it.
 abbrev pub Answered : {C : Type 0} → Model → Sides → Costs C → (before after : List ℕ) → Verdict C → Type 0
 Answered s sides m before after AllAdmitted = ((f : Forest) → s.counts f → sides.kept f) × (after ≡ before)
-Answered s sides m before after (Lost cost size shown) = Loss s sides m before after cost size shown
+Answered s sides m before after (Lost l) = CheapestLost s sides m before after l.cost l.length l.shown
 
 -- Refusal 20: a list of 0 or above 1,024 elements, which stays as it is. Refusal 21: more sorts than elements.
-pub data Refusal {L : Type 0} (s : Model) (n : ℕ) (list list' : L) : (number place : ℕ) → Type 0 where
-  no_list : (n ≡ 0) ⊎ (most < n) → list' ≡ list → Refusal s n list list' 20 0
-  too_many : 0 < n → n ≤ most → TooMany s n → Refusal s n list list' 21 0
+pub data Refusal {L : Type 0} (s : Model) (n : ℕ) (list list' : L) : ℕ × ℕ → Type 0 where
+  no_list : (n ≡ 0) ⊎ (most < n) → list' ≡ list → Refusal s n list list' (20, 0)
+  too_many : 0 < n → n ≤ most → TooMany s n → Refusal s n list list' (21, 0)
 
 -- Where neither is due, the answer; the other way round, a refusal leaves the show buffer.
 abbrev pub Judged : {C L : Type 0} → Model → Sides → Costs C → (n : ℕ) → (list list' : L) → (before after : List ℕ) → Result (Verdict C) Fault → Type 0
 Judged s sides m n list list' before after (Ok v) = (0 < n) × (n ≤ most) × Few s n × Answered s sides m before after v
-Judged s sides m n list list' before after (Err f) = Refusal s n list list' f.number f.place × (after ≡ before)
+Judged s sides m n list list' before after (Err f) = Refusal s n list list' (told f) × (after ≡ before)

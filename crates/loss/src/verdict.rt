@@ -1,8 +1,16 @@
 // What a judgement answers.
 
-/// No lost forest, or one of least cost: its cost and its length, and whether its bytes are shown.
-#[derive(Clone, Copy)]
+/// A lost forest of least cost: its cost and its length, and whether its bytes are shown.
+#[derive(Clone, Copy, PartialEq, Eq, Debug)]
+pub struct Loss<C> {
+    pub cost: C,
+    pub length: u32,
+    pub shown: bool,
+}
+
+/// No forest is lost, or one of least cost is told.
+#[derive(Clone, Copy, PartialEq, Eq, Debug)]
 pub enum Verdict<C> {
     AllAdmitted,
-    Lost { cost: C, length: u32, shown: bool },
+    Lost(Loss<C>),
 }

@@ -1,6 +1,5 @@
 -- What the laws of a measure give of the cost of a forest, and of its own order.
-use mathlib.Core.Logic.{inl, inr}
-use lib.ListN.{length}
+use Rattle.std.proofs.Common.{length, inl, inr}
 use Rattle.forest.specs.Forest.{Forest, nil, text, node}
 use Rattle.measure.specs.Measure.{Ranking, Ordered, Costs, Rules, Lawful, Tied, cost_of}
 

@@ -1,7 +1,5 @@
 -- The length counts bytes.
-use mathlib.Core.Path.{refl}
-use native.Mathlib.Omega.{arith}
-use lib.ListN.{length-append}
+use Rattle.std.proofs.Common.{refl, arith, length-append}
 use Rattle.forest.specs.Forest.{nil, text, node}
 use Rattle.measure.specs.Lengths.{LengthCountsBytes}
 

@@ -6,10 +6,10 @@ ghost use Rattle.std.proofs.Common.{rules};
 use crate::{CEILING, Measure, Order};
 
 /// How many texts a forest holds, and then its length, up to the ceiling.
-#[derive(Clone, Copy)]
+#[derive(Clone, Copy, PartialEq, Eq, Debug)]
 pub struct Filling;
 
-// Once the texts reach the ceiling, both numbers are the ceiling.
+/// Once the texts reach the ceiling, both numbers are the ceiling.
 fn capped(texts: u32, length: u32) -> (u32, u32)
     ensures { result ≡ joint texts length }
 {
@@ -26,7 +26,7 @@ impl Order<(u32, u32)> for Filling {
     ghost ordered = { Prim.search rules };
 
     fn at_most(&self, a: (u32, u32), b: (u32, u32)) -> bool {
-        a.0 < b.0 || a.0 == b.0 && a.1 <= b.1
+        a <= b
     }
 }
 
@@ -44,7 +44,7 @@ impl Measure for Filling {
     }
 
     fn of_text(&self, bytes: u8, rest: (u32, u32)) -> (u32, u32) {
-        capped(1 + rest.0, 2 + bytes as u32 + rest.1)
+        capped(1 + rest.0, 2 + u32::from(bytes) + rest.1)
     }
 
     fn of_node(&self, content: (u32, u32), rest: (u32, u32)) -> (u32, u32) {

@@ -5,7 +5,7 @@ ghost use Rattle.std.proofs.Common.{rules};
 use crate::{Measure, Order};
 
 /// Tells no forest from another: each costs the same.
-#[derive(Clone, Copy)]
+#[derive(Clone, Copy, PartialEq, Eq, Debug)]
 pub struct Flat {
     pub only: u32,
 }

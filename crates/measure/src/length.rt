@@ -5,7 +5,7 @@ ghost use Rattle.std.proofs.Common.{rules};
 use crate::{CEILING, Measure, Order};
 
 /// How many bytes a forest is written with, up to the ceiling.
-#[derive(Clone, Copy)]
+#[derive(Clone, Copy, PartialEq, Eq, Debug)]
 pub struct Length;
 
 impl Order<u32> for Length {
@@ -32,7 +32,7 @@ impl Measure for Length {
     }
 
     fn of_text(&self, bytes: u8, rest: u32) -> u32 {
-        (2 + bytes as u32 + rest).min(CEILING)
+        (2 + u32::from(bytes) + rest).min(CEILING)
     }
 
     fn of_node(&self, content: u32, rest: u32) -> u32 {

@@ -7,12 +7,12 @@ mod filling;
 mod flat;
 mod length;
 
-ghost use Rattle.std.specs.Prelude.{◌≡◌, true};
+ghost use Rattle.std.specs.Prelude.{◌≡◌, ◌↔◌, IsTrue};
 ghost use Rattle.measure.specs.Measure.{Ranking, Ordered, Costs, Lawful, Tied};
 ghost use Rattle.measure.specs.Lengths.{LengthCountsBytes};
 ghost use Rattle.measure.specs.Eithers.{CostsAlike};
 
-pub use either::{Either, EitherCost};
+pub use either::Either;
 pub use filling::Filling;
 pub use flat::Flat;
 pub use length::Length;
@@ -25,9 +25,8 @@ pub trait Order<C> {
     ghost ranking: { Self → Ranking C };
 
     fn at_most(&self, a: C, b: C) -> bool
-        requires { ((ranking self.now).ranks a) × ((ranking self.now).ranks b) }
-        ensures yes { result ≡ true → (ranking self.now).le a b }
-        ensures no { (ranking self.now).le a b → result ≡ true };
+        requires { (ranking self.now).ranks a × (ranking self.now).ranks b }
+        ensures { IsTrue result ↔ (ranking self.now).le a b };
 
     ghost ordered: { (o : Self) → Ordered (ranking o).ranks (ranking o).le };
 }
@@ -37,7 +36,7 @@ pub trait Order<C> {
 pub trait Measure: Order<<Self as Measure>::Cost> {
     type Cost: Copy;
 
-    // Which values are costs, the measure's own order of them, and the three costs.
+    /// Which values are costs, the measure's own order of them, and the three costs.
     ghost model: { Self → Costs Self.Cost };
 
     fn of_nil(&self) -> Self::Cost
@@ -48,7 +47,7 @@ pub trait Measure: Order<<Self as Measure>::Cost> {
         ensures { result ≡ (model self.now).rules.of_text bytes rest };
 
     fn of_node(&self, content: Self::Cost, rest: Self::Cost) -> Self::Cost
-        requires { ((model self.now).good content) × ((model self.now).good rest) }
+        requires { (model self.now).good content × (model self.now).good rest }
         ensures { result ≡ (model self.now).rules.of_node content rest };
 
     /// Promises that the measure's own order and the order it is built on say the same of any two costs.

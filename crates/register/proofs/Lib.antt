@@ -1,4 +1,3 @@
 pub mod Holdings
 pub mod Changes
 pub mod Admissions
-pub mod Judgements

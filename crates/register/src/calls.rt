@@ -3,10 +3,9 @@ ghost use Rattle.std.specs.Prelude.{◌≡◌};
 ghost use Rattle.law.specs.Calls.{Begun, Filed, Fetched};
 ghost use Rattle.register.specs.Holding.{held, LeftIfRefused};
 
-use crate::register::{BYTES, RECORDS, ROWS, Register, refusal};
-use forest::Fault;
+use crate::register::{BYTES, RECORDS, ROWS, Register, refused};
+use forest::{Fault, Refusal};
 use rows::Row;
-use sheet::sound::SoundSheet;
 use store::Store;
 
 impl Register {
@@ -18,7 +17,7 @@ impl Register {
             editions: Store::new(rows, ROWS),
             records: Store::new(bytes, BYTES),
             under: [0; RECORDS],
-            newest: SoundSheet::empty(),
+            newest: None,
         }
     }
 
@@ -27,31 +26,20 @@ impl Register {
         ensures told { Filed (held self.old) body.now result (held self.new) }
         ensures left { LeftIfRefused result self.old self.new }
     {
-        if !self.has_edition() {
-            return Err(refusal(31));
-        }
-        if !self.admits(body)? {
-            return Err(refusal(32));
-        }
-        if !self.takes_record(body.len()) {
-            return Err(refusal(33));
-        }
-        let edition = self.editions.count();
-        Ok(self.keep(body, edition))
+        self.admit(body)?;
+        self.keep(body)
     }
 
     /// Copies a record to the front of the buffer, and tells its length and its edition.
     pub fn fetch(&self, number: usize, buffer: &mut [u8]) -> Result<(usize, usize), Fault>
         ensures { Fetched (held self.now) number buffer.old result buffer.new }
     {
-        let Some((body, edition)) = self.find(number) else {
-            return Err(refusal(34));
-        };
+        let (body, edition) = self.find(number).ok_or(refused(Refusal::NoRecord))?;
         let length = body.len();
         if buffer.len() < length {
-            return Err(refusal(35));
+            return Err(refused(Refusal::BufferTooShort));
         }
-        buffer[0..length].copy_from_slice(body);
+        buffer[..length].copy_from_slice(body);
         Ok((length, edition))
     }
 }

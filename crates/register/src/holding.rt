@@ -1,45 +1,39 @@
 //! What a register holds, read and written in its memory.
-ghost use Rattle.std.specs.Prelude.{◌≡◌, ◌+◌, ◌<◌, ◌≤◌, true, false, length};
+ghost use Rattle.std.specs.Prelude.{◌≡◌, ◌+◌, length};
 ghost use Rattle.sheet.specs.Held.{rows_of};
-ghost use Rattle.law.specs.Calls.{newest, numbered, ThereIs, with_edition};
-ghost use Rattle.register.specs.Holding.{held};
-ghost use Rattle.register.specs.Inner.{Admitting, Finding, TakesEdition, TakesRecord, with_record_under};
+ghost use Rattle.law.specs.Calls.{newest, numbered, with_edition, after_filing};
+ghost use Rattle.register.specs.Holding.{held, LeftIfRefused};
+ghost use Rattle.register.specs.Inner.{Admitting, Finding, Keeping, TakesEdition};
 
-use crate::register::Register;
-use forest::Fault;
+use crate::register::{Register, refused};
+use forest::{Fault, Refusal};
 use sheet::sound::SoundSheet;
 
 impl Register {
-    /// Is there an edition?
-    pub(crate) fn has_edition(&self) -> bool
-        ensures yes { result ≡ true → ThereIs (newest (held self.now).editions) }
-        ensures no { result ≡ false → ThereIs (newest (held self.now).editions) → ⊥ }
-    {
-        self.editions.count() > 0
-    }
-
-    /// Does the body stand for a record of the newest edition?
-    pub(crate) fn admits(&self, body: &[u8]) -> Result<bool, Fault>
-        requires { ThereIs (newest (held self.now).editions) }
+    /// Refuses a body that stands for no record of the newest edition.
+    pub(crate) fn admit(&self, body: &[u8]) -> Result<(), Fault>
         ensures { Admitting (newest (held self.now).editions) body.now result }
     {
-        self.newest.belongs(body)
+        let Some(newest) = &self.newest else {
+            return Err(refused(Refusal::NoEdition));
+        };
+        if !newest.belongs(body)? {
+            return Err(refused(Refusal::NotOfNewest));
+        }
+        Ok(())
     }
 
-    /// Is there room for an edition of so many rows?
-    pub(crate) fn takes_edition(&self, rows: usize) -> bool
-        ensures yes { result ≡ true → TakesEdition (held self.now) rows }
-        ensures no { result ≡ false → TakesEdition (held self.now) rows → ⊥ }
+    /// One more record under the newest edition, where there is room for it. Tells its number.
+    pub(crate) fn keep(&mut self, body: &[u8]) -> Result<usize, Fault>
+        ensures told { Keeping (held self.old) body.now result }
+        ensures leaves { held self.new ≡ after_filing (held self.old) body.now result }
+        ensures left { LeftIfRefused result self.old self.new }
     {
-        self.editions.takes(rows)
-    }
-
-    /// Is there room for a record of so many bytes?
-    pub(crate) fn takes_record(&self, bytes: usize) -> bool
-        ensures yes { result ≡ true → TakesRecord (held self.now) bytes }
-        ensures no { result ≡ false → TakesRecord (held self.now) bytes → ⊥ }
-    {
-        self.records.takes(bytes)
+        let Ok(index) = self.records.append(body) else {
+            return Err(refused(Refusal::RecordsFull));
+        };
+        self.under[index] = self.editions.count();
+        Ok(index + 1)
     }
 
     /// One more edition, the newest. Tells its number.
@@ -48,20 +42,8 @@ impl Register {
         ensures number { result ≡ length (held self.old).editions + 1 }
         ensures held { held self.new ≡ with_edition (held self.old) (rows_of sheet.now) }
     {
-        let _ = self.editions.append(sheet.rows());
-        self.newest = *sheet;
-        self.editions.count()
-    }
-
-    /// One more record, under an edition. Tells its number.
-    pub(crate) fn keep(&mut self, body: &[u8], edition: usize) -> usize
-        requires { TakesRecord (held self.old) (length body.now) }
-        ensures number { result ≡ length (held self.old).kept + 1 }
-        ensures held { held self.new ≡ with_record_under (held self.old) body.now edition }
-    {
-        let index = self.records.count();
-        let _ = self.records.append(body);
-        self.under[index] = edition;
+        let index = self.editions.push(sheet.rows());
+        self.newest = Some(*sheet);
         index + 1
     }
 

@@ -5,7 +5,8 @@ ghost use Rattle.law.specs.Calls.{Proposed, lent, newest};
 ghost use Rattle.register.specs.Holding.{held, LeftIfRefused};
 ghost use Rattle.register.specs.Inner.{Judging};
 
-use crate::register::{Register, refusal};
+use crate::register::{Register, refused};
+use forest::Refusal;
 use judge::{Sort, Verdict, judge};
 use law::Declined;
 use measure::Measure;
@@ -27,11 +28,11 @@ impl Register {
         ensures told { Proposed (M.Measure.model measure.now) (held self.old) (rows_of sheet.now) (lent list.old show.old) result (lent list.new show.new) (held self.new) }
         ensures left { LeftIfRefused result self.old self.new }
     {
-        if list.len() == 0 || list.len() > MOST_SORTS {
-            return Err(Declined::Refused(refusal(20)));
+        if list.is_empty() || list.len() > MOST_SORTS {
+            return Err(Declined::Refused(refused(Refusal::ListSize)));
         }
-        if !self.takes_edition(sheet.len()) {
-            return Err(Declined::Refused(refusal(30)));
+        if !self.editions.takes(sheet.len()) {
+            return Err(Declined::Refused(refused(Refusal::EditionsFull)));
         }
         self.judge_newest(sheet, measure, list, show)?;
         Ok(self.adopt(sheet))
@@ -48,20 +49,11 @@ impl Register {
         requires { (0 < length list.old) × (length list.old ≤ 1024) }
         ensures { Judging (M.Measure.model measure.now) (rows_of sheet.now) (lent list.old show.old) (lent list.new show.new) (newest (held self.now).editions) result }
     {
-        if !self.has_edition() {
+        let Some(newest) = &self.newest else {
             return Ok(());
-        }
-        let verdict = judge(&self.newest, sheet, measure, list, show)?;
-        match verdict {
-            Verdict::Lost {
-                cost,
-                length,
-                shown,
-            } => Err(Declined::Loses {
-                cost,
-                length,
-                shown,
-            }),
+        };
+        match judge(newest, sheet, measure, list, show)? {
+            Verdict::Lost(loss) => Err(Declined::Loses(loss)),
             Verdict::AllAdmitted => Ok(()),
         }
     }

@@ -1,10 +1,10 @@
 //! What a register is made of.
-ghost use Rattle.std.specs.Prelude.{◌≡◌, ◌-◌, ◌<◌, [], length, slice_index_or};
-ghost use Rattle.law.specs.Calls.{fault};
-ghost use Rattle.sheet.specs.Held.{rows_of};
+ghost use Rattle.std.specs.Prelude.{◌≡◌, length};
+ghost use Rattle.forest.specs.Refusals.{fault};
 ghost use Rattle.store.specs.Stores.{lists};
+ghost use Rattle.register.specs.Newest.{IsNewest};
 
-use forest::Fault;
+use forest::{Fault, Refusal};
 use rows::Row;
 use sheet::sound::SoundSheet;
 use store::Store;
@@ -26,16 +26,17 @@ pub struct Register {
     /// The bytes of each record.
     pub(crate) records: Store<u8, RECORDS>,
     /// The edition that each record was filed under.
+    // It stands beside the store: in a store's spans it would be a number that the editions have no use for.
     pub(crate) under: [usize; RECORDS],
     /// The newest edition once more, ready to be used.
-    pub(crate) newest: SoundSheet,
+    pub(crate) newest: Option<SoundSheet>,
     ghost limits: { (editions.limit ≡ 2048) × (records.limit ≡ 65536) × (length under ≡ 256) },
-    ghost last: { (0 < length (lists editions) → slice_index_or (lists editions) (length (lists editions) - 1) [] ≡ rows_of newest) },
+    ghost last: { IsNewest newest (lists editions) },
 }
 
-/// The refusal of this number, which tells place 0.
-pub(crate) fn refusal(number: u8) -> Fault
-    ensures { result ≡ fault number 0 }
+/// A refusal that tells place 0.
+pub(crate) fn refused(refusal: Refusal) -> Fault
+    ensures { result ≡ fault refusal 0 }
 {
-    Fault { number, place: 0 }
+    Fault { refusal, place: 0 }
 }

@@ -2,10 +2,9 @@
 
 #![tactic(auto)]
 
-ghost use Rattle.std.specs.Prelude.{◌≡◌, true, IfOk};
-
 #[cfg(test)]
 mod tests {
+    use forest::Fault;
     use law::Declined;
     use measure::Length;
     use register::Register;
@@ -23,14 +22,16 @@ mod tests {
     const TEXTS: [u8; 12] = [1, 0, 0, 0, 6, 0, 0, 0, 7, 1, 0, 0];
 
     // Whether a test goes on.
-    fn check(holds: bool) -> Result<(), Fail>
-        ensures { IfOk result (λ _. holds ≡ true) }
-    {
+    fn check(holds: bool) -> Result<(), Fail> {
         if holds {
             Ok(())
         } else {
             Err(Fail::new("a check does not hold"))
         }
+    }
+
+    fn tells(fault: Fault, number: u8, place: usize) -> Result<(), Fail> {
+        check((fault.refusal.number(), fault.place) == (number, place))
     }
 
     fn new_register(heap: Global, rows: usize, bytes: usize) -> Result<Register, Fail> {
@@ -42,14 +43,8 @@ mod tests {
 
     fn sound(body: &[u8]) -> Result<SoundSheet, Fail> {
         let mut sheet = SoundSheet::empty();
-        let checked = match ReadSheet::read(body) {
-            Ok(read) => sheet.check(&read),
-            Err(fault) => Err(fault),
-        };
-        match checked {
-            Ok(()) => Ok(sheet),
-            Err(_) => Err(Fail::new("the sheet was refused")),
-        }
+        sheet.check(&ReadSheet::read(body)?)?;
+        Ok(sheet)
     }
 
     // Proposes the sheet, with a list of so many elements.
@@ -68,15 +63,15 @@ mod tests {
             rest: 0,
         }; 32];
         let mut show = [0; 4];
-        check(sorts <= 32)?;
-        Ok(register.propose(&sheet, &Length, &mut list[0..sorts], &mut show))
+        let list = list.get_mut(..sorts).ok_or("the list is shorter")?;
+        Ok(register.propose(&sheet, &Length, list, &mut show))
     }
 
     fn becomes(register: &mut Register, body: &[u8], edition: usize) -> Result<(), Fail> {
-        match propose(register, body, 32)? {
-            Ok(number) => check(number == edition),
-            Err(_) => Err(Fail::new("the proposal was declined")),
-        }
+        let number = propose(register, body, 32)?
+            .ok()
+            .ok_or("the proposal was declined")?;
+        check(number == edition)
     }
 
     fn declined(
@@ -87,29 +82,18 @@ mod tests {
     ) -> Result<(), Fail> {
         match propose(register, body, sorts)? {
             Ok(_) => Err(Fail::new("the proposal was accepted")),
-            Err(Declined::Refused(fault)) => {
-                check(fault.number == number)?;
-                check(fault.place == 0)
-            }
-            Err(Declined::Loses { .. }) => check(36 == number),
+            Err(Declined::Refused(fault)) => tells(fault, number, 0),
+            Err(Declined::Loses(_)) => check(number == 36),
         }
     }
 
     fn kept(register: &mut Register, body: &[u8], record: usize) -> Result<(), Fail> {
-        match register.file(body) {
-            Ok(number) => check(number == record),
-            Err(_) => Err(Fail::new("the record was refused")),
-        }
+        check(register.file(body)? == record)
     }
 
     fn refused(register: &mut Register, body: &[u8], number: u8, place: usize) -> Result<(), Fail> {
-        match register.file(body) {
-            Ok(_) => Err(Fail::new("the record was kept")),
-            Err(fault) => {
-                check(fault.number == number)?;
-                check(fault.place == place)
-            }
-        }
+        let fault = register.file(body).err().ok_or("the record was kept")?;
+        tells(fault, number, place)
     }
 
     // Fetches into a buffer of so many bytes: the record, and the rest of the buffer as it was.
@@ -121,32 +105,21 @@ mod tests {
         edition: usize,
     ) -> Result<(), Fail> {
         let mut buffer = [0xaa; 8];
-        let mut expected = buffer;
-        for (to, from) in expected.iter_mut().zip(body) {
-            *to = *from;
-        }
-        check(room <= 8)?;
-        match register.fetch(number, &mut buffer[0..room]) {
-            Ok(told) => {
-                check(told.0 == body.len())?;
-                check(told.1 == edition)?;
-                check(buffer == expected)
-            }
-            Err(_) => Err(Fail::new("the record was not given")),
-        }
+        let front = buffer.get_mut(..room).ok_or("the buffer is shorter")?;
+        check(register.fetch(number, front)? == (body.len(), edition))?;
+        check(buffer.starts_with(body))?;
+        check(buffer.iter().skip(body.len()).all(|&byte| byte == 0xaa))
     }
 
     fn unfetched(register: &Register, number: usize, room: usize, refusal: u8) -> Result<(), Fail> {
         let mut buffer = [0xaa; 8];
-        check(room <= 8)?;
-        match register.fetch(number, &mut buffer[0..room]) {
-            Ok(_) => Err(Fail::new("a record was given")),
-            Err(fault) => {
-                check(fault.number == refusal)?;
-                check(fault.place == 0)?;
-                check(buffer == [0xaa; 8])
-            }
-        }
+        let front = buffer.get_mut(..room).ok_or("the buffer is shorter")?;
+        let fault = register
+            .fetch(number, front)
+            .err()
+            .ok_or("a record was given")?;
+        tells(fault, refusal, 0)?;
+        check(buffer == [0xaa; 8])
     }
 
     #[test]
@@ -163,7 +136,7 @@ mod tests {
     #[test]
     fn sixteen_editions(rt: HostRuntime) -> Result<(), Fail> {
         let mut register = new_register(rt.alloc(), 34, 0)?;
-        for k in 1..17 {
+        for k in 1..=16 {
             becomes(&mut register, &EMPTY, k)?;
         }
         declined(&mut register, &EMPTY, 0, 20)?;
@@ -189,7 +162,7 @@ mod tests {
     fn many_records(rt: HostRuntime) -> Result<(), Fail> {
         let mut register = new_register(rt.alloc(), 2, 0)?;
         becomes(&mut register, &EMPTY, 1)?;
-        for k in 1..257 {
+        for k in 1..=256 {
             kept(&mut register, &[], k)?;
         }
         refused(&mut register, &[], 33, 0)?;

@@ -1,18 +1,21 @@
 -- The steps of checking: what each loop keeps.
+use Rattle.forest.specs.Refusals.{number_of}
 use Rattle.std.proofs.Common.{◌≡◌, ℕ, suc, ◌+◌, ◌*◌, ◌%◌, ◌^◌, ◌<◌, ◌≤◌, ◌⊎◌, List, [], ◌∷◌, ◌++◌, length, get_or, take, set, sym, refl, ap, ◌∙◌, subst, inl, inr, pow-suc, add-one, arith}
 use mathlib.Core.Option.{Option, none, some}
 use lib.Bits.{bit_or, or_shifted_r}
 use lib.Count.{ones, ones_cat, ones_step}
 use Rattle.std.proofs.lemmas.Nat.{one_shl}
-use Rattle.std.proofs.lemmas.List.{take_more, take_more_set, take_all, length-take-le}
+use Rattle.std.specs.Prelude.{true, false}
+use Rattle.std.proofs.lemmas.List.Sums.{count_by_more_yes, count_by_more_no}
+use Rattle.std.proofs.lemmas.List.{take_more, take_more_set, length-take-le}
 use Rattle.forest.specs.declared.fault.Fault.{Fault}
 use Rattle.rows.specs.Sheet.{Sheet, Row, empty, one_text, named, any, seq, alt, many, def, at, definitions, Names, by_named, by_any, Place, places}
 use Rattle.rows.specs.Raw.{RawRow, AllSay, none_say}
-use Rattle.rows.specs.Kinds.{IsDefinition, IsPlace}
+use Rattle.rows.specs.Kinds.{is_place_row}
 use Rattle.rows.specs.Parts.{Taken, NotTaken}
-use Rattle.rows.specs.Checking.{PartsFit, GoodFront, GoodRows, Due, says_nothing, parts_astray, ContentThere}
+use Rattle.rows.specs.Checking.{PartsFit, GoodFront, Due, says_nothing, parts_astray, ContentThere}
 use Rattle.rows.proofs.Fronts.{part_below, fits_push, misfit, say_push, say_last}
-use Rattle.rows.proofs.Numbers.{at_get_or, at_below, definitions_more, one_definition, one_place, one_is_place, places_more}
+use Rattle.rows.proofs.Numbers.{at_get_or, at_below, one_is_place, places_count_by}
 
 -- Rows taken in one by one.
 pub front_none : (raws : List RawRow) → GoodFront raws 0 []
@@ -31,7 +34,7 @@ front_more raws rows i d x h l g t =
     }
 
 pub front_ends : (raws : List RawRow) (rows : Sheet) (i : ℕ) (d : RawRow) (f : Fault) → i < length raws → i ≤ length rows
-    → GoodFront raws i (take i rows) → NotTaken (get_or raws i d) (take i rows) f → Due raws f.number f.place
+    → GoodFront raws i (take i rows) → NotTaken (get_or raws i d) (take i rows) f → Due raws (number_of f.refusal) f.place
 front_ends raws rows i d f h l g n =
     let q : take (suc i) raws ≡ take i raws ++ get_or raws i d ∷ [] = ap (λ (j : ℕ). take j raws) (sym (add-one i)) ∙ take_more raws i d h in
     let p : f.place ≡ i = n.here ∙ length-take-le i rows l in
@@ -45,60 +48,6 @@ front_ends raws rows i d f h l g n =
           (λ z. misfit (take i rows) w.1.0 w.1.2
           (subst (λ (j : ℕ). PartsFit (take i rows ++ w.1.0 ∷ []) j) (sym (length-take-le i rows l)) z)))
     ]
-
-pub front_all : (raws : List RawRow) (rows : Sheet) (i : ℕ) → length raws ≤ i → i ≤ length raws
-    → GoodFront raws i (take i rows) → GoodRows raws (take (length raws) rows)
-front_all raws rows i h l g =
-    let q : i ≡ length raws = omega arith in
-    let r = take_all i raws h in
-    record {
-      say = subst (λ (s : Sheet). AllSay raws s) (ap (λ (j : ℕ). take j rows) q) (subst (λ (w : List RawRow). AllSay w (take i rows)) r g.say);
-      fit = subst (λ (s : Sheet). (e : ℕ) → PartsFit s e) (ap (λ (j : ℕ). take j rows) q) g.fit;
-    }
-
--- Counting definitions.
-yes_definition : (r : Row) → IsDefinition r → one_definition r ≡ 1
-yes_definition empty h = elim h [ ]
-yes_definition one_text h = elim h [ ]
-yes_definition (named l d) h = elim h [ ]
-yes_definition (any d) h = elim h [ ]
-yes_definition (seq a b) h = elim h [ ]
-yes_definition (alt a b) h = elim h [ ]
-yes_definition (many a) h = elim h [ ]
-yes_definition (def a) h = refl
-
-no_definition : (r : Row) → (IsDefinition r → ⊥) → one_definition r ≡ 0
-no_definition empty h = refl
-no_definition one_text h = refl
-no_definition (named l d) h = refl
-no_definition (any d) h = refl
-no_definition (seq a b) h = refl
-no_definition (alt a b) h = refl
-no_definition (many a) h = refl
-no_definition (def a) h = absurd (h tt)
-
-pub definition_row : (r : Row) → IsDefinition r → (x : ℕ) × (r ≡ def x)
-definition_row empty h = elim h [ ]
-definition_row one_text h = elim h [ ]
-definition_row (named l d) h = elim h [ ]
-definition_row (any d) h = elim h [ ]
-definition_row (seq a b) h = elim h [ ]
-definition_row (alt a b) h = elim h [ ]
-definition_row (many a) h = elim h [ ]
-definition_row (def a) h = (a, refl)
-
-pub one_more : (s : Sheet) (e : ℕ) (d : Row) → e < length s → IsDefinition (get_or s e d)
-    → definitions (take (e + 1) s) ≡ definitions (take e s) + 1
-one_more s e d h y =
-    ap (λ (j : ℕ). definitions (take j s)) (add-one e) ∙ definitions_more s e (get_or s e d) (at_get_or s e d h)
-    ∙ ap (λ (n : ℕ). definitions (take e s) + n) (yes_definition (get_or s e d) y)
-
-pub none_more : (s : Sheet) (e : ℕ) (d : Row) → e < length s → (IsDefinition (get_or s e d) → ⊥)
-    → definitions (take (e + 1) s) ≡ definitions (take e s)
-none_more s e d h y =
-    let z = ap (λ (j : ℕ). definitions (take j s)) (add-one e) ∙ definitions_more s e (get_or s e d) (at_get_or s e d h)
-    ∙ ap (λ (n : ℕ). definitions (take e s) + n) (no_definition (get_or s e d) y) in
-    omega arith
 
 -- Names of definitions, by the row.
 abbrev pub NamesRow : ℕ → Option Row → Type 0
@@ -143,46 +92,19 @@ content_none s p (alt a b) i f g d n = elim (subst (λ (o : Option Row). NamesRo
 content_none s p (many a) i f g d n = elim (subst (λ (o : Option Row). NamesRow d o) i (names_row n)) [ ]
 content_none s p (def a) i f g d n = elim (subst (λ (o : Option Row). NamesRow d o) i (names_row n)) [ ]
 
-pub not_definition : (s : Sheet) (a : ℕ) (r : Row) → at s a ≡ some r → (IsDefinition r → ⊥) → (x : ℕ) → at s a ≡ some (def x) → ⊥
-not_definition s a r i n x j =
-    let q : def x ≡ r = cc in n (subst (λ (w : Row). IsDefinition w) q tt)
-
 -- Counting places by ones.
-yes_place : (r : Row) → IsPlace r → one_place r ≡ 1
-yes_place empty h = elim h [ ]
-yes_place one_text h = refl
-yes_place (named l d) h = refl
-yes_place (any d) h = refl
-yes_place (seq a b) h = elim h [ ]
-yes_place (alt a b) h = elim h [ ]
-yes_place (many a) h = elim h [ ]
-yes_place (def a) h = refl
+pub place_of : (s : Sheet) (e : ℕ) (d : Row) → e < length s → is_place_row (get_or s e d) ≡ true → Place s e
+place_of s e d h y = one_is_place s e (get_or s e d) (at_get_or s e d h) y
 
-no_place : (r : Row) → (IsPlace r → ⊥) → one_place r ≡ 0
-no_place empty h = refl
-no_place one_text h = absurd (h tt)
-no_place (named l d) h = absurd (h tt)
-no_place (any d) h = absurd (h tt)
-no_place (seq a b) h = refl
-no_place (alt a b) h = refl
-no_place (many a) h = refl
-no_place (def a) h = absurd (h tt)
-
-pub place_of : (s : Sheet) (e : ℕ) (d : Row) → e < length s → IsPlace (get_or s e d) → Place s e
-place_of s e d h y = one_is_place s e (get_or s e d) (at_get_or s e d h) (yes_place (get_or s e d) y)
-
-pub place_more : (s : Sheet) (e : ℕ) (d : Row) → e < length s → IsPlace (get_or s e d)
+pub place_more : (s : Sheet) (e : ℕ) (d : Row) → e < length s → is_place_row (get_or s e d) ≡ true
     → places (take (e + 1) s) ≡ places (take e s) + 1
 place_more s e d h y =
-    ap (λ (j : ℕ). places (take j s)) (add-one e) ∙ places_more s e (get_or s e d) (at_get_or s e d h)
-    ∙ ap (λ (n : ℕ). places (take e s) + n) (yes_place (get_or s e d) y)
+    omega (arith, places_count_by (take (e + 1) s), places_count_by (take e s), count_by_more_yes is_place_row s e d h y)
 
-pub place_same : (s : Sheet) (e : ℕ) (d : Row) → e < length s → (IsPlace (get_or s e d) → ⊥)
+pub place_same : (s : Sheet) (e : ℕ) (d : Row) → e < length s → is_place_row (get_or s e d) ≡ false
     → places (take (e + 1) s) ≡ places (take e s)
 place_same s e d h y =
-    let z = ap (λ (j : ℕ). places (take j s)) (add-one e) ∙ places_more s e (get_or s e d) (at_get_or s e d h)
-    ∙ ap (λ (n : ℕ). places (take e s) + n) (no_place (get_or s e d) y) in
-    omega arith
+    omega (arith, places_count_by (take (e + 1) s), places_count_by (take e s), count_by_more_no is_place_row s e d h y)
 
 -- The rows below e that are places, as a set of rows.
 pub record PlaceSet (s : Sheet) (e m : ℕ) : Type 0 where
@@ -193,7 +115,7 @@ one_none : ones 0 ≡ 0
 unfolding ones
 one_none = refl
 
-pub set_more : (s : Sheet) (e m : ℕ) (d : Row) → e < 128 → e < length s → IsPlace (get_or s e d)
+pub set_more : (s : Sheet) (e m : ℕ) (d : Row) → e < 128 → e < length s → is_place_row (get_or s e d) ≡ true
     → PlaceSet s e m → PlaceSet s (e + 1) (bit_or m ((1 * 2 ^ e) % 2 ^ 128))
 set_more s e m d w h y p =
     let b = p.bound in
@@ -207,7 +129,7 @@ set_more s e m d w h y p =
           ∙ omega (arith, u, p.many, place_more s e d h y);
     }
 
-pub set_same_more : (s : Sheet) (e m : ℕ) (d : Row) → e < length s → (IsPlace (get_or s e d) → ⊥)
+pub set_same_more : (s : Sheet) (e m : ℕ) (d : Row) → e < length s → is_place_row (get_or s e d) ≡ false
     → PlaceSet s e m → PlaceSet s (e + 1) m
 set_same_more s e m d h y p =
     let b = p.bound in

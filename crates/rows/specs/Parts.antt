@@ -1,5 +1,6 @@
 -- How rows are taken in one by one: what the code says of a row beside the rows below it.
 -- Nothing on this page is needed to read which sheets are sound or which refusal is due.
+use Rattle.forest.specs.Refusals.{number_of}
 use Rattle.std.specs.Prelude.{◌≡◌, ℕ, zero, suc, ◌+◌, ◌^◌, ◌<◌, cond, ◌⊎◌, List, length, take, ◌==◌, ◌≢◌, slice_index}
 use Rattle.std.proofs.Math.Option.{Option, none, some}
 use Rattle.forest.specs.declared.fault.Fault.{Fault}
@@ -30,8 +31,8 @@ pub record Taken (raw : RawRow) (below : Sheet) (x : Row) : Type 0 where
 -- Why there is none: the bytes say nothing, or a part does not sit.
 pub record NotTaken (raw : RawRow) (below : Sheet) (f : Fault) : Type 0 where
   pub here : f.place ≡ length below
-  pub why : ((f.number ≡ 10) × ((x : Row) → RowSays raw x → ⊥))
-      ⊎ ((f.number ≡ 11) × ((x : Row) × RowSays raw x × (PartsSit x below → ⊥)))
+  pub why : ((number_of f.refusal ≡ 10) × ((x : Row) → RowSays raw x → ⊥))
+      ⊎ ((number_of f.refusal ≡ 11) × ((x : Row) × RowSays raw x × (PartsSit x below → ⊥)))
 
 -- The parts of the row are below the number.
 abbrev pub PartsBelow : Row → ℕ → Type 0

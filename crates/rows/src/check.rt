@@ -1,5 +1,6 @@
 //! Checking rows: refusals 10 to 14, in their order.
 
+ghost use Rattle.forest.specs.Refusals.{number_of};
 ghost use Rattle.std.specs.Prelude.{◌≡◌, ℕ, ◌+◌, ◌<◌, ◌≤◌, length, take, MatchResult, slice_index};
 ghost use Rattle.rows.specs.Checking.{ContentThere, Due, GoodRows, OnceAPart, PartsFit};
 ghost use Rattle.rows.specs.Parts.{Lowest, Numbers, PartsBelow, hit, hits, uses};
@@ -10,17 +11,17 @@ use super::raw::RawRow;
 use super::read::MOST_ROWS;
 use super::row::Row;
 use super::take::take_row;
-use forest::Fault;
+use forest::{Fault, Refusal};
 
 /// Takes the raw rows in one by one, into the front of `rows`; refusals 10 and 11.
 pub fn take_rows(raws: &[RawRow], rows: &mut [Row]) -> Result<(), Fault>
     requires { length raws.now ≤ length rows.old }
     ensures { MatchResult result
         (λ _. GoodRows raws.now (take (length raws.now) rows.new))
-        (λ f. Due raws.now f.number f.place) }
+        (λ f. Due raws.now (number_of f.refusal) f.place) }
 {
     for (i, raw) in raws.iter().enumerate() {
-        let row = take_row(*raw, &rows[0..i])?;
+        let row = take_row(*raw, &rows[..i])?;
         rows[i] = row;
     }
     Ok(())
@@ -31,7 +32,7 @@ fn mark(used: &mut [u16], part: u8)
     requires { (part < length used.old) × (slice_index used.old part < 1000) }
     ensures { (a : ℕ) → slice_index used.new a ≡ slice_index used.old a + hit a part }
 {
-    used[part as usize] += 1;
+    used[usize::from(part)] += 1;
 }
 
 /// Adds the parts of one row to the tally.
@@ -56,7 +57,7 @@ fn tally(rows: &[Row], used: &mut [u16])
     requires unused { (a : ℕ) → slice_index used.old a ≡ 0 }
     ensures { (a : ℕ) → slice_index used.new a ≡ uses rows.now (length rows.now) a }
 {
-    for (e, row) in rows.iter().enumerate() {
+    for row in rows {
         tally_row(*row, used);
     }
 }
@@ -66,7 +67,7 @@ pub fn parts_once(rows: &[Row]) -> Result<(), Fault>
     requires { (((e : ℕ) → PartsFit rows.now e)) × (length rows.now ≤ 128) }
     ensures { MatchResult result
         (λ _. (a : ℕ) → a < length rows.now → OnceAPart rows.now a)
-        (λ f. (f.number ≡ 12) × Lowest (length rows.now) (OnceAPart rows.now) f.place) }
+        (λ f. ((number_of f.refusal) ≡ 12) × Lowest (length rows.now) (OnceAPart rows.now) f.place) }
 {
     let mut used = [0u16; MOST_ROWS];
     tally(rows, &mut used);
@@ -74,7 +75,7 @@ pub fn parts_once(rows: &[Row]) -> Result<(), Fault>
         let once = used[a] == 1;
         if !once && !row.is_definition() {
             return Err(Fault {
-                number: 12,
+                refusal: Refusal::NotOnceAPart,
                 place: a,
             });
         }
@@ -86,27 +87,21 @@ pub fn parts_once(rows: &[Row]) -> Result<(), Fault>
 fn count_definitions(rows: &[Row]) -> usize
     ensures { result ≡ definitions rows.now }
 {
-    let mut count: usize = 0;
-    for (e, row) in rows.iter().enumerate() {
-        if row.is_definition() {
-            count += 1;
-        }
-    }
-    count
+    rows.iter().filter(|row| row.is_definition()).count()
 }
 
 /// Refusal 13 at the lowest row that names a missing definition.
 pub fn contents_there(rows: &[Row]) -> Result<(), Fault>
     ensures { MatchResult result
         (λ _. (p : ℕ) → p < length rows.now → ContentThere rows.now p)
-        (λ f. (f.number ≡ 13) × Lowest (length rows.now) (ContentThere rows.now) f.place) }
+        (λ f. ((number_of f.refusal) ≡ 13) × Lowest (length rows.now) (ContentThere rows.now) f.place) }
 {
     let count = count_definitions(rows);
     for (p, row) in rows.iter().enumerate() {
         if let Row::Named(_, d) | Row::Any(d) = *row {
-            if d as usize >= count {
+            if usize::from(d) >= count {
                 return Err(Fault {
-                    number: 13,
+                    refusal: Refusal::NoDefinition,
                     place: p,
                 });
             }
@@ -119,13 +114,7 @@ pub fn contents_there(rows: &[Row]) -> Result<(), Fault>
 pub fn count_places(rows: &[Row]) -> usize
     ensures { result ≡ places rows.now }
 {
-    let mut count: usize = 0;
-    for (e, row) in rows.iter().enumerate() {
-        if row.is_place() {
-            count += 1;
-        }
-    }
-    count
+    rows.iter().filter(|row| row.is_place()).count()
 }
 
 /// Numbers the places in row order: each row gets the count of places below it. Refusal 14 at the 65th place.
@@ -133,7 +122,7 @@ pub fn number_places(rows: &[Row], numbers: &mut [u8]) -> Result<(), Fault>
     requires { (length rows.now ≤ 128) × (length numbers.old ≡ 128) }
     ensures { MatchResult result
         (λ _. (places rows.now ≤ 64) × Numbers rows.now numbers.new)
-        (λ f. (f.number ≡ 14) × Place rows.now f.place × (places (take f.place rows.now) ≡ 64)) }
+        (λ f. ((number_of f.refusal) ≡ 14) × Place rows.now f.place × (places (take f.place rows.now) ≡ 64)) }
 {
     let mut set: u128 = 0;
     for (e, row) in rows.iter().enumerate() {
@@ -142,7 +131,7 @@ pub fn number_places(rows: &[Row], numbers: &mut [u8]) -> Result<(), Fault>
         if row.is_place() {
             if count == 64 {
                 return Err(Fault {
-                    number: 14,
+                    refusal: Refusal::TooManyPlaces,
                     place: e,
                 });
             }

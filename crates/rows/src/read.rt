@@ -1,10 +1,11 @@
 //! Read sheets: the rows of a sheet body as they stand, not checked.
 
+ghost use Rattle.forest.specs.Refusals.{number_of};
 ghost use Rattle.std.specs.Prelude.{◌≡◌, ◌+◌, ◌*◌, ◌<◌, ◌≤◌, length, take, MatchResult};
 ghost use Rattle.rows.specs.Raw.{Body, laid};
 
 use super::raw::RawRow;
-use forest::Fault;
+use forest::{Fault, Refusal};
 
 /// The most rows that a sheet has, and the most bytes that they take.
 pub const MOST_ROWS: usize = 128;
@@ -25,11 +26,11 @@ impl ReadSheet {
     pub fn read(body: &[u8]) -> Result<ReadSheet, Fault>
         ensures { MatchResult result
             (λ sheet. Body body.now × (laid (take sheet.count sheet.rows) ≡ body.now))
-            (λ f. (f.number ≡ 9) × (f.place ≡ 0) × (Body body.now → ⊥)) }
+            (λ f. ((number_of f.refusal) ≡ 9) × (f.place ≡ 0) × (Body body.now → ⊥)) }
     {
         if body.is_empty() || body.len() > MOST_BYTES || body.len() % 4 != 0 {
             return Err(Fault {
-                number: 9,
+                refusal: Refusal::SheetSize,
                 place: 0,
             });
         }
@@ -57,17 +58,10 @@ fn fill(body: &[u8], rows: &mut [RawRow]) -> usize
     ensures laid { laid (take result rows.new) ≡ body.now }
     ensures many { 4 * result ≡ length body.now }
 {
-    let mut left = body;
-    let mut count = 0;
-    while let [kind, first, second, third, rest @ ..] = left {
-        rows[count] = RawRow {
-            kind: *kind,
-            first: *first,
-            second: *second,
-            third: *third,
-        };
-        count += 1;
-        left = rest;
+    let (raws, _) = body.as_chunks::<4>();
+    // By index, since a proof knows no element that was written through `iter_mut`.
+    for (i, raw) in raws.iter().enumerate() {
+        rows[i] = RawRow::from(*raw);
     }
-    count
+    raws.len()
 }

@@ -1,7 +1,7 @@
 //! The rows of a sheet.
 
-ghost use Rattle.rows.specs.Kinds.{IsDefinition, IsPlace};
-ghost use Rattle.std.specs.Prelude.{T, ◌↔◌};
+ghost use Rattle.rows.specs.Kinds.{is_definition_row, is_place_row};
+ghost use Rattle.std.specs.Prelude.{◌≡◌};
 
 /// What one row of a sheet says.
 ///
@@ -29,21 +29,18 @@ pub enum Row {
 impl Row {
     /// Whether the row is a definition.
     pub fn is_definition(&self) -> bool
-        ensures { T result ↔ IsDefinition self.now }
+        ensures { result ≡ is_definition_row self.now }
     {
-        match *self {
-            Row::Def(_) => true,
-            _ => false,
-        }
+        matches!(self, Row::Def(_))
     }
 
     /// Whether the row is a place: a definition or a leaf.
     pub fn is_place(&self) -> bool
-        ensures { T result ↔ IsPlace self.now }
+        ensures { result ≡ is_place_row self.now }
     {
-        match *self {
-            Row::Def(_) | Row::Text | Row::Named(_, _) | Row::Any(_) => true,
-            _ => false,
-        }
+        matches!(
+            self,
+            Row::Def(_) | Row::Text | Row::Named(_, _) | Row::Any(_)
+        )
     }
 }

@@ -1,5 +1,6 @@
 //! The checks of a read sheet, in their order.
 
+ghost use Rattle.forest.specs.Refusals.{number_of};
 ghost use Rattle.std.specs.Prelude.{◌≡◌, ℕ, ◌<◌, ◌≤◌, length, MatchResult};
 ghost use Rattle.rows.specs.Checked.{Checked, raws_of};
 ghost use Rattle.rows.specs.Checking.{AtMostOne, Due, PartsFit, WrongOverAll};
@@ -16,7 +17,7 @@ fn check_whole(rows: &[Row], numbers: &mut [u8]) -> Result<(), Fault>
     requires { (((e : ℕ) → PartsFit rows.now e)) × ((length rows.now ≤ 128) × (length numbers.old ≡ 128)) }
     ensures { MatchResult result
         (λ _. Whole rows.now numbers.new)
-        (λ f. WrongOverAll rows.now f.number f.place) }
+        (λ f. WrongOverAll rows.now (number_of f.refusal) f.place) }
 {
     parts_once(rows)?;
     contents_there(rows)?;
@@ -26,17 +27,18 @@ fn check_whole(rows: &[Row], numbers: &mut [u8]) -> Result<(), Fault>
 
 impl ReadSheet {
     /// The rows that were read, if they are those of a sound sheet; refusals 10 to 14.
+    #[tactic(auto, using(crate::proofs::Single::at_most_one))]
     pub fn check(&self) -> Result<CheckedRows, Fault>
         ensures answer { MatchResult result
             (λ checked. Checked (raws_of self.now) checked)
-            (λ f. Due (raws_of self.now) f.number f.place) }
+            (λ f. Due (raws_of self.now) (number_of f.refusal) f.place) }
         ensures one { AtMostOne (raws_of self.now) }
     {
         let count = self.count;
         let mut rows = [Row::Empty; MOST_ROWS];
-        take_rows(&self.rows[0..count], &mut rows)?;
+        take_rows(&self.rows[..count], &mut rows)?;
         let mut numbers = [0u8; MOST_ROWS];
-        check_whole(&rows[0..count], &mut numbers)?;
+        check_whole(&rows[..count], &mut numbers)?;
         Ok(CheckedRows {
             rows,
             count,

@@ -5,22 +5,19 @@ ghost use Rattle.std.specs.Prelude.{T, ◌↔◌, MatchResult};
 
 use super::raw::RawRow;
 use super::row::Row;
-use forest::Fault;
+use forest::{Fault, Refusal};
 
 /// Whether `part` is the number of a row below that is no definition.
 fn sits(below: &[Row], part: u8) -> bool
     ensures { T result ↔ Sits below.now part }
 {
-    if part as usize >= below.len() {
-        return false;
-    }
-    match below[part as usize] {
-        Row::Def(_) => false,
-        _ => true,
-    }
+    below
+        .get(usize::from(part))
+        .is_some_and(|row| !row.is_definition())
 }
 
 /// The row that four bytes say; refusal 10 where they say none, 11 where a part is not lower or is a definition.
+#[tactic(auto, using(crate::proofs::Taking::says_none, crate::proofs::Taking::as_empty, crate::proofs::Taking::as_text, crate::proofs::Taking::as_any, crate::proofs::Taking::as_seq, crate::proofs::Taking::as_alt, crate::proofs::Taking::as_many, crate::proofs::Taking::as_def))]
 pub fn take_row(raw: RawRow, below: &[Row]) -> Result<Row, Fault>
     ensures { MatchResult result (Taken raw below.now) (NotTaken raw below.now) }
 {
@@ -35,25 +32,24 @@ pub fn take_row(raw: RawRow, below: &[Row]) -> Result<Row, Fault>
     match kind {
         0 if first == 0 && second == 0 && third == 0 => Ok(Row::Empty),
         1 if first == 0 && second == 0 && third == 0 => Ok(Row::Text),
-        2 if first != 0 || second != 0 => Ok(Row::Named(
-            256 * u16::from(first) + u16::from(second),
-            third,
-        )),
+        2 if first != 0 || second != 0 => {
+            Ok(Row::Named(u16::from_be_bytes([first, second]), third))
+        }
         3 if first == 0 && second == 0 => Ok(Row::Any(third)),
         4 if third == 0 && a && b => Ok(Row::Seq(first, second)),
         5 if third == 0 && a && b => Ok(Row::Alt(first, second)),
         6 if second == 0 && third == 0 && a => Ok(Row::Many(first)),
         7 if second == 0 && third == 0 && a => Ok(Row::Def(first)),
         4 | 5 if third == 0 => Err(Fault {
-            number: 11,
+            refusal: Refusal::PartNotBelow,
             place: below.len(),
         }),
         6 | 7 if second == 0 && third == 0 => Err(Fault {
-            number: 11,
+            refusal: Refusal::PartNotBelow,
             place: below.len(),
         }),
         _ => Err(Fault {
-            number: 10,
+            refusal: Refusal::NoRow,
             place: below.len(),
         }),
     }

@@ -2,7 +2,7 @@
 
 #![tactic(auto)]
 
-use desk::{Progress, handle};
+use desk::{Desk, Progress};
 use judge::Sort;
 use register::Register;
 use rows::Row;
@@ -29,22 +29,24 @@ fn main(rt: HostRuntime) -> anyhow::Result<()> {
     rt.stdin().take(MOST_INPUT).read_to_end(&mut input)?;
     let mut out = BufWriter::new(heap, rt.stdout())?;
     let mut register = Register::new(vec![in heap; Row::Empty; 2048]?, vec![in heap; 0; 65536]?);
-    let mut list = [UNUSED; 1024];
-    let mut show = [0; 4096];
-    let mut line = LineBuffer::new();
+    let mut desk = Desk {
+        register: &mut register,
+        list: &mut [UNUSED; 1024],
+        show: &mut [0; 4096],
+        line: &mut LineBuffer::new(),
+    };
     let mut rest = input.as_slice();
-    let mut number = 1;
-    loop {
-        match handle(&mut register, number, rest, &mut list, &mut show, &mut line) {
+    // An entry takes some of the input, so there are no more entries than bytes.
+    for number in 1..=input.len() {
+        match desk.handle(number, rest) {
             Progress::Done => break,
             Progress::Stopped => {
-                out.write_all(line.text())?;
+                out.write_all(desk.line.text())?;
                 break;
             }
             Progress::More(next) => {
-                out.write_all(line.text())?;
+                out.write_all(desk.line.text())?;
                 rest = next;
-                number += 1;
             }
         }
     }

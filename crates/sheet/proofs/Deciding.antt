@@ -1,5 +1,5 @@
 -- What the tables hold can be decided, so a truncated fact about them gives the fact itself.
-use Rattle.std.proofs.Common.{◌≡◌, ℕ, zero, suc, ◌+◌, Bool, true, false, T, ◌⊎◌, ◌↔◌, List, length, get_or, take, sym, refl, ap, ◌∙◌, subst, inl, inr, add-one, arith}
+use Rattle.std.proofs.Common.{◌≡◌, ℕ, zero, suc, ◌+◌, Bool, true, false, T, ◌⊎◌, ◌↔◌, List, length, get_or, take, sym, refl, ap, subst, inl, inr, add-one, arith}
 use mathlib.Core.Logic.{∥∥₁_map, ∥∥₁_elim}
 use mathlib.Core.Option.{Option, none, some}
 use native.Mathlib.Decide.{ℕ_discrete}
@@ -9,12 +9,11 @@ use Rattle.rows.specs.declared.row.Row.TheVariants.{Empty as empty, Text as one_
 use Rattle.sheet.specs.Standing.{SetOf}
 use Rattle.rows.specs.Steps.{WellFormed}
 use Rattle.sheet.specs.Shapes.{LeadsAt, EndsAt, LeadsBelow, EndsBelow, Holds}
-use Rattle.sheet.specs.Compiled.{LeafKind, Text, Named, Any, Tables, Tabled, OfKind, KindAt, Compiled}
+use Rattle.sheet.specs.Compiled.{Tables, Tabled, TextAt, NamedAt, AnyAt, Compiled}
 use Rattle.sheet.proofs.Tests.{nullable, opening, closing, following}
 use Rattle.sheet.proofs.Compute.{is_nullable, is_opening, is_closing, is_following}
 use Rattle.sheet.proofs.Bits.{bit_or_not}
 use Rattle.rows.proofs.Checks.{names_row}
-use Rattle.rows.proofs.Taking.{same_row}
 use native.Mathlib.Bridge.{le_prop}
 use Rattle.sheet.proofs.Tabling.{Through, through_more, through_stay, through_none}
 
@@ -86,32 +85,17 @@ module _ (s : Sheet) (w : WellFormed s) where
   pub leads_or : (k q p : ℕ) → Either (LeadsBelow s k q p)
   leads_or k q p = through_or (λ e x. LeadsAt s e x q p) (λ e x. leads_at_or e x q p) k
 
-of_kind_or : (k : LeafKind) (r : Row) → Either (OfKind k r)
-of_kind_or k empty = inr (λ z. z)
-of_kind_or Text one_text = inl tt
-of_kind_or Named one_text = inr (λ z. z)
-of_kind_or Any one_text = inr (λ z. z)
-of_kind_or Text (named l d) = inr (λ z. z)
-of_kind_or Named (named l d) = inl tt
-of_kind_or Any (named l d) = inr (λ z. z)
-of_kind_or Text (any d) = inr (λ z. z)
-of_kind_or Named (any d) = inr (λ z. z)
-of_kind_or Any (any d) = inl tt
-of_kind_or k (seq a b) = inr (λ z. z)
-of_kind_or k (alt a b) = inr (λ z. z)
-of_kind_or k (many a) = inr (λ z. z)
-of_kind_or k (def a) = inr (λ z. z)
-
-kind_or : (s : Sheet) (k : LeafKind) (p : ℕ) → Either (KindAt s k p)
-kind_or s k p = go (at s p) refl
-  where
-    go : (o : Option Row) → at s p ≡ o → Either (KindAt s k p)
-    go none i = inr (λ z. let q : none ≡ some z.0 = sym i ∙ z.1 in let y : ◌≡◌ {A = ℕ} 0 1 = cc in omega arith)
-    go (some r) i =
-        elim (of_kind_or k r) [
-          | inl h ↦ inl (r, i, h)
-          | inr n ↦ inr (λ z. let q : some z.0 ≡ some r = sym z.1 ∙ i in n (subst (λ (x : Row). OfKind k x) (same_row q) z.2))
-        ]
+-- Whether row p is a leaf of each kind.
+leaf_or : (s : Sheet) (p : ℕ) (o : Option Row) → at s p ≡ o → Either (TextAt s p) × (Either (NamedAt s p) × Either (AnyAt s p))
+leaf_or s p none i = (inr (λ z. let y : ◌≡◌ {A = ℕ} 0 1 = cc in omega arith), (inr (λ z. let q = z.2 in let y : ◌≡◌ {A = ℕ} 0 1 = cc in omega arith), inr (λ z. let q = z.1 in let y : ◌≡◌ {A = ℕ} 0 1 = cc in omega arith)))
+leaf_or s p (some empty) i = (inr (λ z. let y : ◌≡◌ {A = ℕ} 0 1 = cc in omega arith), (inr (λ z. let q = z.2 in let y : ◌≡◌ {A = ℕ} 0 1 = cc in omega arith), inr (λ z. let q = z.1 in let y : ◌≡◌ {A = ℕ} 0 1 = cc in omega arith)))
+leaf_or s p (some one_text) i = (inl i, (inr (λ z. let q = z.2 in let y : ◌≡◌ {A = ℕ} 0 1 = cc in omega arith), inr (λ z. let q = z.1 in let y : ◌≡◌ {A = ℕ} 0 1 = cc in omega arith)))
+leaf_or s p (some (named l d)) i = (inr (λ z. let y : ◌≡◌ {A = ℕ} 0 1 = cc in omega arith), (inl (l, d, i), inr (λ z. let q = z.1 in let y : ◌≡◌ {A = ℕ} 0 1 = cc in omega arith)))
+leaf_or s p (some (any d)) i = (inr (λ z. let y : ◌≡◌ {A = ℕ} 0 1 = cc in omega arith), (inr (λ z. let q = z.2 in let y : ◌≡◌ {A = ℕ} 0 1 = cc in omega arith), inl (d, i)))
+leaf_or s p (some (seq a b)) i = (inr (λ z. let y : ◌≡◌ {A = ℕ} 0 1 = cc in omega arith), (inr (λ z. let q = z.2 in let y : ◌≡◌ {A = ℕ} 0 1 = cc in omega arith), inr (λ z. let q = z.1 in let y : ◌≡◌ {A = ℕ} 0 1 = cc in omega arith)))
+leaf_or s p (some (alt a b)) i = (inr (λ z. let y : ◌≡◌ {A = ℕ} 0 1 = cc in omega arith), (inr (λ z. let q = z.2 in let y : ◌≡◌ {A = ℕ} 0 1 = cc in omega arith), inr (λ z. let q = z.1 in let y : ◌≡◌ {A = ℕ} 0 1 = cc in omega arith)))
+leaf_or s p (some (many a)) i = (inr (λ z. let y : ◌≡◌ {A = ℕ} 0 1 = cc in omega arith), (inr (λ z. let q = z.2 in let y : ◌≡◌ {A = ℕ} 0 1 = cc in omega arith), inr (λ z. let q = z.1 in let y : ◌≡◌ {A = ℕ} 0 1 = cc in omega arith)))
+leaf_or s p (some (def a)) i = (inr (λ z. let y : ◌≡◌ {A = ℕ} 0 1 = cc in omega arith), (inr (λ z. let q = z.2 in let y : ◌≡◌ {A = ℕ} 0 1 = cc in omega arith), inr (λ z. let q = z.1 in let y : ◌≡◌ {A = ℕ} 0 1 = cc in omega arith)))
 
 -- The definition at a row, if it is one of this number.
 defines_or : (s : Sheet) (d e : ℕ) → Either ((x : ℕ) × Defines s d e x)
@@ -184,9 +168,9 @@ compiled {s} {t} w c =
     record {
       ends = told_set (ends_or s (formed w) (length s)) (∥∥₁_map c (λ x. x.ends));
       before = told_table (leads_or s (formed w) (length s)) (∥∥₁_map c (λ x. x.before));
-      texts = told_set (kind_or s Text) (∥∥₁_map c (λ x. x.texts));
-      named = told_set (kind_or s Named) (∥∥₁_map c (λ x. x.named));
-      anys = told_set (kind_or s Any) (∥∥₁_map c (λ x. x.anys));
+      texts = told_set (λ p. (leaf_or s p _ refl).0) (∥∥₁_map c (λ x. x.texts));
+      named = told_set (λ p. (leaf_or s p _ refl).1.0) (∥∥₁_map c (λ x. x.named));
+      anys = told_set (λ p. (leaf_or s p _ refl).1.1) (∥∥₁_map c (λ x. x.anys));
       labels = λ p l d h i. told (number_or _ _) (∥∥₁_map c (λ x. x.labels p l d h i));
       holders = told_table (holds_or s) (∥∥₁_map c (λ x. x.holders));
       top = told_set (defines_or s 0) (∥∥₁_map c (λ x. x.top));

@@ -9,14 +9,28 @@ use Rattle.sheet.specs.Shapes.{Ready}
 use Rattle.sheet.specs.Compiled.{AllThere}
 use Rattle.sheet.specs.Held.{only_empty}
 use Rattle.rows.proofs.Fronts.{PartRow, part_row}
-use Rattle.rows.proofs.Sounding.{sound_from, sound_fits, sound_once, well_formed, has_definition}
+use Rattle.rows.proofs.Sounding.{sound_from, sound_fits, sound_once, has_definition}
 use Rattle.rows.proofs.Checks.{names_row}
+use mathlib.Core.Logic.{∥∥₁_elim}
+use native.Mathlib.Bridge.{le_prop}
+use Rattle.sheet.proofs.Deciding.{formed}
 
-pub made_ready : {s : Sheet} {ns : List ℕ} → Sound s → Numbers s ns → length ns ≡ 128 → Ready s ns × AllThere s
-made_ready {s} w n l = (
-  record { formed = well_formed w; numbered = n; few = w.few; short = w.short; long = l },
-  record { named = λ p d m. w.there m; top = has_definition s w.filled (sound_fits w) (sound_once w) },
-)
+pub made_ready : {s : Sheet} {ns : List ℕ} → ∥ Sound s ∥₁ → Numbers s ns → length ns ≡ 128 → Ready s ns
+made_ready t n l =
+    record {
+      formed = formed t;
+      numbered = n;
+      few = ∥∥₁_elim t le_prop (λ w. w.few);
+      short = ∥∥₁_elim t le_prop (λ w. w.short);
+      long = l;
+    }
+
+pub made_there : {s : Sheet} → ∥ Sound s ∥₁ → AllThere s
+made_there {s} t =
+    record {
+      named = λ p d m. ∥∥₁_elim t le_prop (λ w. w.there m);
+      top = ∥∥₁_elim t le_prop (λ w. has_definition s w.filled (sound_fits w) (sound_once w));
+    }
 
 -- The sheet of the empty forest.
 empty_fit : (e : ℕ) → PartsFit only_empty e
@@ -52,13 +66,7 @@ empty_sound =
     sound_from only_empty (omega arith) (omega arith) (λ e l d i. absurd (empty_label e l d i)) empty_fit empty_once
     (λ p d n. absurd (empty_names p d n)) (omega arith)
 
-empty_numbers : (e : ℕ) → e < 2 → ◌≡◌ {A = ℕ} (get_or (replicate 128 0) e 0) (places (take e only_empty))
+pub empty_numbers : (e : ℕ) → e < 2 → ◌≡◌ {A = ℕ} (get_or (replicate 128 0) e 0) (places (take e only_empty))
 empty_numbers zero h = refl
 empty_numbers (suc zero) h = refl
 empty_numbers (suc (suc e)) h = absurd (omega arith)
-
-pub empty_ready : Ready only_empty (replicate 128 0) × AllThere only_empty
-empty_ready = (
-  record { formed = well_formed empty_sound; numbered = empty_numbers; few = omega arith; short = omega arith; long = refl },
-  record { named = λ p d n. absurd (empty_names p d n); top = omega arith },
-)

@@ -11,7 +11,6 @@ use Rattle.rows.specs.Sheet.{Leaf, leaf_text, leaf_named, leaf_any}
 use Rattle.sheet.specs.Meaning.{Follows}
 use Rattle.rows.specs.Steps.{WellFormed}
 use Rattle.rows.specs.Steps.{Opens, opens_itself, opens_seq_first, opens_seq_second, opens_alt_first, opens_alt_second, opens_many, opens_def}
-use Rattle.rows.specs.Steps.{Next, next_seq_first, next_seq_second, next_seq_across, next_alt_first, next_alt_second, next_many, next_many_across, next_def}
 use Rattle.sheet.specs.Meaning.{Belongs, MayFollow}
 use Rattle.sheet.proofs.Laws.{StandingOfNil, StandingOfTree, LeafFits}
 use Rattle.sheet.proofs.Inside.{Inside, same, up, above, linear, opens_inside, follows_inside, next_inside}
@@ -27,16 +26,6 @@ opens_leaf (opens_alt_first i o) = opens_leaf o
 opens_leaf (opens_alt_second i o) = opens_leaf o
 opens_leaf (opens_many i o) = opens_leaf o
 opens_leaf (opens_def i o) = opens_leaf o
-
-pub next_leaf : {s : Sheet} {q p e : ℕ} → Next s q p e → Leaf s p
-next_leaf (next_seq_first i n) = next_leaf n
-next_leaf (next_seq_second i n) = next_leaf n
-next_leaf (next_seq_across i c o) = opens_leaf o
-next_leaf (next_alt_first i n) = next_leaf n
-next_leaf (next_alt_second i n) = next_leaf n
-next_leaf (next_many i n) = next_leaf n
-next_leaf (next_many_across i c o) = opens_leaf o
-next_leaf (next_def i n) = next_leaf n
 
 -- A row stands inside one definition at most.
 top : {s : Sheet} {e e' x : ℕ} → WellFormed s → at s e ≡ some (def x) → Inside s e e' → e ≡ e'

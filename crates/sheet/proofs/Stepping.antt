@@ -6,14 +6,13 @@ use lib.Count.{count_trailing_zeros}
 use Rattle.std.proofs.lemmas.Bool.{ne_eqb}
 use Rattle.forest.specs.Forest.{Forest, nil}
 use Rattle.rows.specs.Sheet.{Sheet, at, definitions, Defines, Leaf, leaf_text, leaf_named, leaf_any, Names, by_named, by_any}
-use Rattle.rows.specs.declared.row.Row.{Row}
-use Rattle.rows.specs.declared.row.Row.TheVariants.{Empty as empty, Text as one_text, Named as named, Any as any, Seq as seq, Alt as alt, Many as many, Def as def}
+use Rattle.rows.specs.declared.row.Row.TheVariants.{Named as named, Def as def}
 use Rattle.rows.specs.Sheet.{Place, a_definition, a_leaf, places}
 use Rattle.sheet.specs.Meaning.{of_text, Follows, itself, in_seq_first, in_seq_second, in_alt_first, in_alt_second, in_many, in_def, Belongs, MayFollow, OfSheet, Stands, at_definition, at_leaf}
 use Rattle.sheet.specs.Standing.{Bit, SetOf, IsStanding, Tree, a_text, a_node, before, Reads, AreLeaves}
 use Rattle.rows.specs.Steps.{WellFormed}
 use Rattle.sheet.specs.Shapes.{LeadsBelow, EndsBelow}
-use Rattle.sheet.specs.Compiled.{Text, Named, Any, Tables, Tabled, OfKind, KindAt, Compiled}
+use Rattle.sheet.specs.Compiled.{Tables, Tabled, TextAt, Compiled}
 use Rattle.sheet.specs.Leaves.{HasLabel, HasContent}
 use Rattle.sheet.proofs.Bits.{lowest, bit_below, no_bit}
 use Rattle.rows.proofs.Numbers.{at_below, defines_once}
@@ -125,18 +124,8 @@ tree_stands m w c h f t r a b =
     set_same (leads_stands w t r) (gathered m (set_and a b) c.before (λ p z. a_leaf z.0.0) h f)
 
 -- The leaves of a text.
-text_reads : {s : Sheet} (t : List ℕ) (p : ℕ) → KindAt s Text p ↔ Reads s (a_text t) p
-text_reads {s} t p = (λ z. forth z.0 z.1 z.2, λ z. (one_text, ((leaf_fits s p z.0).to_text t).0 z.1, tt))
-  where
-    forth : (r : Row) → at s p ≡ some r → OfKind Text r → Reads s (a_text t) p
-    forth empty i h = absurd h
-    forth one_text i h = (leaf_text i, of_text i)
-    forth (named l d) i h = absurd h
-    forth (any d) i h = absurd h
-    forth (seq a b) i h = absurd h
-    forth (alt a b) i h = absurd h
-    forth (many a) i h = absurd h
-    forth (def a) i h = absurd h
+text_reads : {s : Sheet} (t : List ℕ) (p : ℕ) → TextAt s p ↔ Reads s (a_text t) p
+text_reads {s} t p = (λ i. (leaf_text i, of_text i), λ z. ((leaf_fits s p z.0).to_text t).0 z.1)
 
 pub text_admitted : {s : Sheet} {tb : Tables} → Compiled s tb → (t : List ℕ) → AreLeaves s tb.texts (a_text t)
 text_admitted c t = set_same (text_reads t) c.texts
@@ -153,32 +142,6 @@ content_held {s} m c h g f a =
     (gathered m a c.holders (λ p z. stands_place z) h g)
 
 -- The leaves of a node by its label.
-any_kind : (s : Sheet) (p : ℕ) → KindAt s Any p ↔ ((d : ℕ) × (at s p ≡ some (any d)))
-any_kind s p = (λ z. forth z.0 z.1 z.2, λ z. (any z.0, z.1, tt))
-  where
-    forth : (r : Row) → at s p ≡ some r → OfKind Any r → (d : ℕ) × (at s p ≡ some (any d))
-    forth empty i h = absurd h
-    forth one_text i h = absurd h
-    forth (named l d) i h = absurd h
-    forth (any d) i h = (d, i)
-    forth (seq a b) i h = absurd h
-    forth (alt a b) i h = absurd h
-    forth (many a) i h = absurd h
-    forth (def a) i h = absurd h
-
-named_kind : (s : Sheet) (p : ℕ) → KindAt s Named p → (l d : ℕ) × (at s p ≡ some (named l d))
-named_kind s p z = forth z.0 z.1 z.2
-  where
-    forth : (r : Row) → at s p ≡ some r → OfKind Named r → (l d : ℕ) × (at s p ≡ some (named l d))
-    forth empty i h = absurd h
-    forth one_text i h = absurd h
-    forth (named l d) i h = (l, d, i)
-    forth (any d) i h = absurd h
-    forth (seq a b) i h = absurd h
-    forth (alt a b) i h = absurd h
-    forth (many a) i h = absurd h
-    forth (def a) i h = absurd h
-
 pub label_picked : {s : Sheet} {tb : Tables} (l m : ℕ) → Compiled s tb → m < 2 ^ 64
     → ((i : ℕ) → Bit i m ↔ (Bit i tb.named × (get_or tb.labels i 0 ≡ l)))
     → SetOf s m (λ p. (d : ℕ) × (at s p ≡ some (named l d)))
@@ -187,13 +150,13 @@ label_picked {s} {tb} l m c h f =
       bits = λ i p n. (
         λ b.
             let z = (f i).0 b in
-            let k = named_kind s p ((c.named.bits i p n).0 z.0) in
+            let k = (c.named.bits i p n).0 z.0 in
             let e = c.labels p k.0 k.1 (at_below s p (named k.0 k.1) k.2) k.2 in
             let q : k.0 ≡ l = sym e ∙ ap (λ (j : ℕ). get_or tb.labels j 0) n.number ∙ z.1 in
             (k.1, subst (λ (x : ℕ). at s p ≡ some (named x k.1)) q k.2),
         λ z.
             let e = c.labels p l z.0 (at_below s p (named l z.0) z.1) z.1 in
-            (f i).1 ((c.named.bits i p n).1 (named l z.0, z.1, tt), ap (λ (j : ℕ). get_or tb.labels j 0) (sym n.number) ∙ e),
+            (f i).1 ((c.named.bits i p n).1 (l, z.0, z.1), ap (λ (j : ℕ). get_or tb.labels j 0) (sym n.number) ∙ e),
       );
       no_more = bits_bound 64 (places s) m h (λ i b. bit_below (places s) i tb.named c.named.no_more ((f i).0 b).0);
     }
@@ -203,8 +166,8 @@ pub label_held : {s : Sheet} {tb : Tables} (l m : ℕ) → Compiled s tb → m <
     → SetOf s (bit_or tb.anys m) (HasLabel s l)
 label_held {s} l m c h f =
     set_same (λ p. (
-      λ z. elim z [ inl y ↦ inr ((any_kind s p).0 y) | inr y ↦ inl y ],
-      λ z. elim z [ inl y ↦ inr y | inr y ↦ inl ((any_kind s p).1 y) ],
+      λ z. elim z [ inl y ↦ inr y | inr y ↦ inl y ],
+      λ z. elim z [ inl y ↦ inr y | inr y ↦ inl y ],
     ))
     (set_or c.anys (label_picked l m c h f))
 

@@ -1,22 +1,22 @@
 -- Filling the tables of a sheet, row by row.
-use Rattle.std.proofs.Common.{◌≡◌, ℕ, ◌+◌, ◌^◌, ◌<◌, ◌≤◌, ◌⊎◌, ◌↔◌, List, length, get_or, take, set, sym, refl, ap, ◌∙◌, subst, inl, inr, arith, get_or-set_other, get_or-set_same, pow_pos}
+use Rattle.std.proofs.Common.{◌≡◌, ℕ, ◌+◌, ◌^◌, ◌<◌, ◌≤◌, ◌⊎◌, ◌↔◌, List, length, get_or, take, set, sym, refl, ap, ◌∙◌, subst, inl, inr, arith, get_or-set_other, get_or-set_same}
 use mathlib.Core.Option.{some}
 use lib.Bits.{bit_or}
-use Rattle.rows.specs.Sheet.{Sheet, at, definitions, Defines, leaf_text, leaf_named, leaf_any}
+use Rattle.rows.specs.Sheet.{Sheet, at, definitions, Defines, leaf_named, leaf_any}
 use Rattle.rows.specs.declared.row.Row.{Row}
-use Rattle.rows.specs.declared.row.Row.TheVariants.{Empty as empty, Text as one_text, Named as named, Any as any, Seq as seq, Alt as alt, Many as many, Def as def}
+use Rattle.rows.specs.declared.row.Row.TheVariants.{Text as one_text, Named as named, Any as any, Def as def}
 use Rattle.rows.specs.Sheet.{Place, a_definition, a_leaf, places, Numbered, Names, by_named, by_any}
 use Rattle.sheet.specs.Standing.{Bit, SetOf}
 use Rattle.rows.specs.Steps.{Nullable, Next}
 use Rattle.rows.specs.Parts.{KeptBelow}
 use Rattle.sheet.specs.Shapes.{Shape, Ready, Shaped, Grown, LeadsAt, EndsAt, LeadsBelow, EndsBelow, Holds}
-use Rattle.sheet.specs.Compiled.{LeafKind, Tabled, OfKind, KindAt, KindBelow, HoldsBelow, Labels}
-use Rattle.sheet.proofs.Bits.{no_bit}
-use Rattle.rows.proofs.Numbers.{at_below, numbered_once, numbered_within, defines_once}
+use Rattle.sheet.specs.Compiled.{Tabled, TextAt, NamedAt, AnyAt, HoldsBelow, Labels}
+use Rattle.rows.proofs.Numbers.{numbered_once, numbered_within, defines_once}
 use Rattle.sheet.proofs.PlaceSets.{set_same, set_or, set_one}
 use Rattle.sheet.proofs.Growing.{grown_then, grown_same, grown_link}
 use Rattle.rows.proofs.Checks.{NamesOne, names_row, names_below}
 use Rattle.rows.proofs.Fronts.{below_or_not}
+use Rattle.rows.proofs.Taking.{same_row}
 
 -- A place has its number.
 pub place_number : {s : Sheet} {e : ℕ} → Place s e → Numbered s (places (take e s)) e
@@ -35,9 +35,6 @@ define_empty {s} {e} {x} {own} p q u n =
     let o : SetOf s own (λ (w : ℕ). w ≡ e) = rw q (set_one (place_number p)) in
     set_same (λ w. (λ z. elim z [ inl y ↦ inl (y, n) | inr y ↦ inr y ], λ z. elim z [ inl y ↦ inl y.0 | inr y ↦ inr y ])) (set_or o u.closing)
 
-pub define_full : {s : Sheet} {x : ℕ} {r : Shape} (e : ℕ) → Shaped s x r → (Nullable s x → ⊥) → SetOf s r.closing (EndsAt s e x)
-define_full e u n = set_same (λ w. (λ z. inr z, λ z. elim z [ inl y ↦ absurd (n y.1) | inr y ↦ y ])) u.closing
-
 pub define_grown : {s : Sheet} {e x own : ℕ} {r : Shape} {t u : List ℕ} (v : List ℕ) → Place s e → own ≡ 2 ^ places (take e s) → Shaped s x r
     → Grown s t u (λ q p. Next s q p x) → KeptBelow own u v
     → ((i j : ℕ) → Bit i (get_or v j 0) ↔ (Bit i (get_or u j 0) ⊎ (Bit j r.opening × Bit i own)))
@@ -48,13 +45,6 @@ define_grown {s} {e} {x} {own} {r} {t} {u} v p q f g k b =
     (grown_then g (grown_link u v o f.opening k b))
 
 -- Tables.
-pub tabled_none : {s : Sheet} (t : List ℕ) {R : ℕ → ℕ → Type 0} → ((j : ℕ) → get_or t j 0 ≡ 0) → ((q p : ℕ) → R q p → ⊥) → Tabled s t R
-tabled_none {s} t z f =
-    record {
-      bits = λ i j q p n m. (λ b. absurd (no_bit i (subst (λ (x : ℕ). Bit i x) (z j) b)), λ r. absurd (f q p r));
-      bound = λ j. let h = pow_pos (places s) in omega (arith, z j);
-    }
-
 pub tabled_same : {s : Sheet} {t : List ℕ} {R S : ℕ → ℕ → Type 0} → ((q p : ℕ) → R q p ↔ S q p) → Tabled s t R → Tabled s t S
 tabled_same f x =
     record { bits = λ i j q p n m. (λ b. (f q p).0 ((x.bits i j q p n m).0 b), λ r. (x.bits i j q p n m).1 ((f q p).1 r)); bound = x.bound }
@@ -114,12 +104,6 @@ through_stay s D k n = (forth, back)
               absurd (n z.1 (subst (λ (e : ℕ). at s e ≡ some (def z.1)) q z.3))
         ]
 
-pub ends_none : (s : Sheet) (q : ℕ) → EndsBelow s 0 q → ⊥
-ends_none s q z = through_none s (λ e x. EndsAt s e x q) z
-
-pub leads_none : (s : Sheet) (q p : ℕ) → LeadsBelow s 0 q p → ⊥
-leads_none s q p z = through_none s (λ e x. LeadsAt s e x q p) z
-
 pub ends_more : {s : Sheet} {m n : ℕ} (k x : ℕ) → at s k ≡ some (def x) → SetOf s m (EndsBelow s k) → SetOf s n (EndsAt s k x)
     → SetOf s (bit_or m n) (EndsBelow s (k + 1))
 ends_more {s} k x i a b = set_same (λ q. through_more s (λ e x. EndsAt s e x q) k x i) (set_or a b)
@@ -138,41 +122,40 @@ leads_stay {s} k n a = tabled_same (λ q p. through_stay s (λ e x. LeadsAt s e 
 below_step : (q k : ℕ) → q < k + 1 → (q < k) ⊎ (q ≡ k)
 below_step q k h = elim (below_or_not q k) [ inl l ↦ inl l | inr l ↦ inr (omega arith) ]
 
-pub kind_more : {s : Sheet} {m n : ℕ} (kind : LeafKind) (k : ℕ) → KindAt s kind k → Place s k → n ≡ 2 ^ places (take k s)
-    → SetOf s m (KindBelow s kind k) → SetOf s (bit_or m n) (KindBelow s kind (k + 1))
-kind_more {s} {m} {n} kind k y p w a =
+-- What holds of a row among the first k.
+abbrev pub Reached : (ℕ → Type 0) → ℕ → ℕ → Type 0
+Reached P k p = (p < k) × P p
+
+pub leaf_more : {s : Sheet} {m n : ℕ} (P : ℕ → Type 0) (k : ℕ) → P k → Place s k → n ≡ 2 ^ places (take k s)
+    → SetOf s m (Reached P k) → SetOf s (bit_or m n) (Reached P (k + 1))
+leaf_more {s} {m} {n} P k y p w a =
     let o : SetOf s n (λ (v : ℕ). v ≡ k) = rw w (set_one (place_number p)) in
     set_same (λ q. (
-      λ z. elim z [ inl u ↦ let h = u.0 in (omega arith, u.1) | inr u ↦ (omega arith, subst (KindAt s kind) (sym u) y) ],
+      λ z. elim z [ inl u ↦ let h = u.0 in (omega arith, u.1) | inr u ↦ (omega arith, subst P (sym u) y) ],
       λ z. elim (below_step q k z.0) [ inl h ↦ inl (h, z.1) | inr h ↦ inr h ],
     ))
     (set_or a o)
 
-pub kind_stay : {s : Sheet} {m : ℕ} (kind : LeafKind) (k : ℕ) → (KindAt s kind k → ⊥)
-    → SetOf s m (KindBelow s kind k) → SetOf s m (KindBelow s kind (k + 1))
-kind_stay {s} kind k n a =
+pub leaf_stay : {s : Sheet} {m : ℕ} (P : ℕ → Type 0) (k : ℕ) → (P k → ⊥) → SetOf s m (Reached P k) → SetOf s m (Reached P (k + 1))
+leaf_stay {s} P k n a =
     set_same (λ q. (
       λ z. let h = z.0 in (omega arith, z.1),
-      λ z. elim (below_step q k z.0) [ inl h ↦ (h, z.1) | inr h ↦ absurd (n (subst (KindAt s kind) h z.1)) ],
+      λ z. elim (below_step q k z.0) [ inl h ↦ (h, z.1) | inr h ↦ absurd (n (subst P h z.1)) ],
     ))
     a
 
-pub kind_all : {s : Sheet} {m : ℕ} (kind : LeafKind) (k : ℕ) → length s ≤ k → SetOf s m (KindBelow s kind k) → SetOf s m (KindAt s kind)
-kind_all {s} kind k h a =
-    set_same (λ q. (λ z. z.1, λ z. let l = at_below s q z.0 z.1 in (omega arith, z))) a
+pub leaf_all : {s : Sheet} {m : ℕ} (P : ℕ → Type 0) (k : ℕ) → ((p : ℕ) → P p → p < k) → SetOf s m (Reached P k) → SetOf s m P
+leaf_all P k h a = set_same (λ q. (λ z. z.1, λ z. (h q z, z))) a
 
-pub kind_place : {s : Sheet} {p : ℕ} (kind : LeafKind) → KindAt s kind p → Place s p
-kind_place {s} {p} kind z = go kind z.0 z.1 z.2
-  where
-    go : (kind : LeafKind) (r : Row) → at s p ≡ some r → OfKind kind r → Place s p
-    go kind empty i h = absurd h
-    go kind one_text i h = a_leaf (leaf_text i)
-    go kind (named l d) i h = a_leaf (leaf_named i)
-    go kind (any d) i h = a_leaf (leaf_any i)
-    go kind (seq a b) i h = absurd h
-    go kind (alt a b) i h = absurd h
-    go kind (many a) i h = absurd h
-    go kind (def a) i h = absurd h
+-- A row that is no leaf of a kind.
+pub not_text : (s : Sheet) (p : ℕ) {r : Row} → at s p ≡ some r → (r ≡ one_text → ⊥) → TextAt s p → ⊥
+not_text s p i n j = n (same_row (sym i ∙ j))
+
+pub not_named : (s : Sheet) (p : ℕ) {r : Row} → at s p ≡ some r → ((l d : ℕ) → r ≡ named l d → ⊥) → NamedAt s p → ⊥
+not_named s p i n z = n z.0 z.1 (same_row (sym i ∙ z.2))
+
+pub not_any : (s : Sheet) (p : ℕ) {r : Row} → at s p ≡ some r → ((d : ℕ) → r ≡ any d → ⊥) → AnyAt s p → ⊥
+not_any s p i n z = n z.0 (same_row (sym i ∙ z.1))
 
 -- Labels.
 pub label_more : (s : Sheet) (ls : List ℕ) (k n l d : ℕ) → at s k ≡ some (named l d) → n ≡ places (take k s) → n < length ls

@@ -1,4 +1,5 @@
 -- The answer to whether a record belongs to a sheet, and how the record is gone through.
+use Rattle.forest.specs.Refusals.{number_of}
 use Rattle.std.specs.Prelude.{ℕ, Bool, T, ◌↔◌, List, [], ◌∷◌, ◌++◌, Ok, Err, Result}
 use Rattle.forest.specs.declared.fault.Fault.{Fault}
 use Rattle.forest.specs.Forest.{Forest}
@@ -12,7 +13,7 @@ use Rattle.sheet.specs.Standing.{IsStanding}
 -- or a refusal of the body is due, which the fault tells by number and place.
 abbrev pub Belonging : Sheet → List ℕ → Result Bool Fault → Type 0
 Belonging s body (Ok answer) = (f : Forest) × StandsFor body f × (T answer ↔ OfSheet s f)
-Belonging s body (Err fault) = Due body fault.number fault.place
+Belonging s body (Err fault) = Due body (number_of fault.refusal) fault.place
 
 -- After a forest comes nothing, or the closing of the node whose content it is and then what comes after that.
 pub data EndsWith : (behind after : List Token) → Type 0 where

@@ -3,12 +3,9 @@
 use Rattle.std.specs.Prelude.{◌≡◌, ℕ, ◌^◌, ◌<◌, ◌↔◌, List, length, take, slice_index}
 use Rattle.std.proofs.Math.Option.{some}
 use Rattle.rows.specs.Sheet.{Sheet, at, definitions, places, Numbered, Names, Defines}
-use Rattle.rows.specs.declared.row.Row.{Row}
-use Rattle.rows.specs.declared.row.Row.TheVariants.{Empty as empty, Text as one_text, Named as named, Any as any, Seq as seq, Alt as alt, Many as many, Def as def}
+use Rattle.rows.specs.declared.row.Row.TheVariants.{Text as one_text, Named as named, Any as any}
 use Rattle.sheet.specs.Standing.{Bit, SetOf}
 use Rattle.sheet.specs.Shapes.{LeadsBelow, EndsBelow, Holds}
-pub use Rattle.sheet.specs.declared.tables.LeafKind.{LeafKind}
-pub use Rattle.sheet.specs.declared.tables.LeafKind.TheVariants.{Text, Named, Any}
 pub use Rattle.sheet.specs.declared.tables.Tables.{Tables}
 
 -- A table of sets of places, an element for each place: the place p has each place q that R says.
@@ -16,30 +13,17 @@ pub record Tabled (s : Sheet) (t : List ℕ) (R : ℕ → ℕ → Type 0) : Type
   pub bits : (i j q p : ℕ) → Numbered s i q → Numbered s j p → Bit i (slice_index t j) ↔ R q p
   pub bound : (j : ℕ) → slice_index t j < 2 ^ places s
 
--- The row is a leaf of this kind.
-abbrev pub OfKind : LeafKind → Row → Type 0
-OfKind k empty = ⊥
-OfKind Text one_text = Unit {0}
-OfKind Named one_text = ⊥
-OfKind Any one_text = ⊥
-OfKind Text (named l d) = ⊥
-OfKind Named (named l d) = Unit {0}
-OfKind Any (named l d) = ⊥
-OfKind Text (any d) = ⊥
-OfKind Named (any d) = ⊥
-OfKind Any (any d) = Unit {0}
-OfKind k (seq a b) = ⊥
-OfKind k (alt a b) = ⊥
-OfKind k (many a) = ⊥
-OfKind k (def a) = ⊥
+-- Row p is a leaf for one text, for a node with a label, for a node of any label.
+abbrev pub TextAt : Sheet → ℕ → Type 0
+TextAt s p = at s p ≡ some one_text
 
-abbrev pub KindAt : Sheet → LeafKind → ℕ → Type 0
-KindAt s k p = (r : Row) × (at s p ≡ some r) × OfKind k r
+abbrev pub NamedAt : Sheet → ℕ → Type 0
+NamedAt s p = (l d : ℕ) × (at s p ≡ some (named l d))
 
--- The same among the first k rows.
-abbrev pub KindBelow : Sheet → LeafKind → ℕ → ℕ → Type 0
-KindBelow s kind k p = (p < k) × KindAt s kind p
+abbrev pub AnyAt : Sheet → ℕ → Type 0
+AnyAt s p = (d : ℕ) × (at s p ≡ some (any d))
 
+-- The leaf p, among the first k rows, holds content of the definition at row w.
 abbrev pub HoldsBelow : Sheet → ℕ → ℕ → ℕ → Type 0
 HoldsBelow s k p w = (p < k) × Holds s p w
 
@@ -59,9 +43,9 @@ pub record AllThere (s : Sheet) : Type 0 where
 pub record Compiled (s : Sheet) (t : Tables) : Type 0 where
   pub ends : SetOf s t.ends (EndsBelow s (length s))
   pub before : Tabled s t.before (LeadsBelow s (length s))
-  pub texts : SetOf s t.texts (KindAt s Text)
-  pub named : SetOf s t.named (KindAt s Named)
-  pub anys : SetOf s t.anys (KindAt s Any)
+  pub texts : SetOf s t.texts (TextAt s)
+  pub named : SetOf s t.named (NamedAt s)
+  pub anys : SetOf s t.anys (AnyAt s)
   pub labels : Labels s (length s) t.labels
   pub holders : Tabled s t.holders (Holds s)
   pub top : SetOf s t.top (λ e. (x : ℕ) × Defines s 0 e x)

@@ -1,5 +1,5 @@
 -- Standings written down: a set of places as one number, the place numbered i as its bit i.
-use Rattle.std.specs.Prelude.{◌≡◌, ℕ, ◌/◌, ◌%◌, ◌^◌, ◌<◌, ◌↔◌, List}
+use Rattle.std.specs.Prelude.{◌≡◌, ℕ, ◌/◌, ◌%◌, ◌^◌, ◌<◌, ◌⊎◌, ◌↔◌, List, Option, None, Some}
 use Rattle.forest.specs.Forest.{Forest, nil, text, node}
 use Rattle.rows.specs.Sheet.{Sheet, Leaf, places, Numbered}
 use Rattle.sheet.specs.Meaning.{Admits, Stands}
@@ -7,6 +7,11 @@ use Rattle.sheet.specs.Meaning.{Admits, Stands}
 -- Bit i of the number is set.
 abbrev pub Bit : ℕ → ℕ → Type 0
 Bit i m = m / 2 ^ i % 2 ≡ 1
+
+-- Walking a set, a step: one member and the set of the others; or none, where the set is empty.
+abbrev pub Walked : ℕ → Option ℕ → ℕ → Type 0
+Walked set None rest = (set ≡ 0) × (rest ≡ 0)
+Walked set (Some i) rest = (i < 64) × (rest < set) × ((j : ℕ) → Bit j set ↔ ((j ≡ i) ⊎ Bit j rest))
 
 -- The number is the set of the places whose rows are as P says: their bits are set, and no others.
 pub record SetOf (s : Sheet) (m : ℕ) (P : ℕ → Type 0) : Type 0 where

@@ -33,27 +33,13 @@ fn standing(sheet: &SoundSheet, events: &mut Events) -> u64
     }
 }
 
-/// A record to read into.
-fn nothing<'a>() -> Record<'a> {
-    Record::empty()
-}
-
-/// Whether a record belongs to the sheet.
-fn belongs_record(sheet: &SoundSheet, given: &Record) -> bool
-    ensures { (f : Forest) → StandsFor given.now.body.now f → T result ↔ OfSheet (rows_of sheet.now) f }
-{
-    let mut events = given.events();
-    let whole = standing(sheet, &mut events);
-    sheet.admits(whole)
-}
-
 impl SoundSheet {
     /// Whether the forest that the body stands for belongs to the sheet; refusals 3 to 8 of the body.
-    pub fn belongs<'a>(&self, body: &'a [u8]) -> Result<bool, Fault>
+    pub fn belongs(&self, body: &[u8]) -> Result<bool, Fault>
         ensures { Belonging (rows_of self.now) body.now result }
     {
-        let mut record = nothing();
-        record.read(body)?;
-        Ok(belongs_record(self, &record))
+        let record = Record::read(body)?;
+        let mut events = record.events();
+        Ok(self.admits(standing(self, &mut events)))
     }
 }

@@ -1,15 +1,24 @@
 //! Checking a read sheet.
 
-ghost use Rattle.rows.specs.Checked.{raws_of};
+ghost use Rattle.rows.specs.Checked.{raws_of, rows_in};
 ghost use Rattle.rows.specs.Checking.{AtMostOne};
 ghost use Rattle.rows.specs.Sheet.{places};
 ghost use Rattle.sheet.specs.Held.{Checking, only_empty, rows_of};
 ghost use Rattle.std.specs.Prelude.{◌≡◌, length};
 
-use super::compile::compile;
+use super::numbered::NumberedRows;
 use super::sound::SoundSheet;
 use forest::Fault;
-use rows::{MOST_ROWS, ReadSheet, Row, count_places};
+use rows::{CheckedRows, MOST_ROWS, ReadSheet, Row, count_places};
+
+impl From<CheckedRows> for SoundSheet {
+    ghost from_gives = { λ checked sheet. rows_of sheet ≡ rows_in checked };
+
+    fn from(checked: CheckedRows) -> SoundSheet {
+        let tables = NumberedRows::of(&checked).tables();
+        SoundSheet { checked, tables }
+    }
+}
 
 impl SoundSheet {
     /// The sheet that admits only the empty forest.
@@ -18,27 +27,21 @@ impl SoundSheet {
     {
         let mut rows = [Row::Empty; MOST_ROWS];
         rows[1] = Row::Def(0);
-        let numbers = [0u8; MOST_ROWS];
-        let tables = compile(&rows[0..2], &numbers);
-        SoundSheet {
+        SoundSheet::from(CheckedRows {
             rows,
             count: 2,
-            tables,
-        }
+            numbers: [0; MOST_ROWS],
+        })
     }
 
+    // The caller holds a sound sheet from the first on: a passed check replaces it, and a refusal does not.
     /// Holds the rows that were read from now on if they are a sound sheet; a refusal leaves what was held.
     pub fn check(&mut self, read: &ReadSheet) -> Result<(), Fault>
         ensures answer { Checking (raws_of read.now) self.old self.new result }
         ensures one { AtMostOne (raws_of read.now) }
     {
         let checked = read.check()?;
-        let tables = compile(&checked.rows[0..checked.count], &checked.numbers);
-        *self = SoundSheet {
-            rows: checked.rows,
-            count: checked.count,
-            tables,
-        };
+        *self = SoundSheet::from(checked);
         Ok(())
     }
 
@@ -46,21 +49,20 @@ impl SoundSheet {
     pub fn rows(&self) -> &[Row]
         ensures { result.now ≡ rows_of self.now }
     {
-        let count = self.count;
-        &self.rows[0..count]
+        self.checked.rows()
     }
 
     /// How many rows the sheet has.
     pub fn len(&self) -> usize
         ensures { result ≡ length (rows_of self.now) }
     {
-        (&self.rows[0..self.count]).len()
+        self.rows().len()
     }
 
     /// How many places it has.
     pub fn places(&self) -> usize
         ensures { result ≡ places (rows_of self.now) }
     {
-        count_places(&self.rows[0..self.count])
+        count_places(self.rows())
     }
 }

@@ -1,139 +1,132 @@
 //! Working out the tables of a sheet.
 
-ghost use Rattle.std.specs.Prelude.{◌≡◌, ℕ, ◌<◌, ◌≤◌, T, ◌↔◌, length, slice_index};
-ghost use Rattle.sheet.specs.Compiled.{AllThere, Compiled, Homes, KindAt, Labels, OfKind, Tabled};
-ghost use Rattle.sheet.specs.Shapes.{EndsAt, EndsBelow, Grown, Holds, LeadsAt, LeadsBelow, Ready};
+ghost use Rattle.std.specs.Prelude.{◌≡◌, ℕ, ◌≤◌, length, slice_index};
+ghost use Rattle.sheet.specs.Compiled.{AnyAt, Compiled, Homes, Labels, NamedAt, Tabled, TextAt};
+ghost use Rattle.sheet.specs.Shapes.{EndsAt, EndsBelow, Grown, Holds, LeadsAt, LeadsBelow};
 ghost use Rattle.rows.specs.Sheet.{at};
 ghost use Rattle.rows.specs.declared.row.Row.TheVariants.{Def as def};
 ghost use Rattle.sheet.specs.Standing.{SetOf};
 ghost use Rattle.std.proofs.Math.Option.{some};
 
-use super::expression::{bit, expression};
-use super::sets::link;
-use super::tables::{LeafKind, Tables};
+use super::numbered::NumberedRows;
+use super::sets::{bit, link};
+use super::tables::Tables;
 use rows::Row;
 
-/// What the definition at row `e` with expression `x` adds to `before`, and the places after which it can end.
-fn define(rows: &[Row], numbers: &[u8], e: usize, x: usize, before: &mut [u64]) -> u64
-    requires { (Ready rows.now numbers.now) × ((at rows.now e ≡ some (def x)) × (length before.old ≡ 64)) }
-    ensures ends { SetOf rows.now result (EndsAt rows.now e x) }
-    ensures grown { Grown rows.now before.old before.new (LeadsAt rows.now e x) }
-{
-    let shape = expression(rows, numbers, x, before);
-    let own = bit(numbers[e]);
-    link(before, own, shape.opening);
-    if shape.empty {
-        own | shape.closing
-    } else {
-        shape.closing
-    }
-}
-
-/// What all definitions add to `before`, and the places after which one can end.
-fn define_all(rows: &[Row], numbers: &[u8], before: &mut [u64]) -> u64
-    requires { (Ready rows.now numbers.now) × ((length before.old ≡ 64) × (((j : ℕ) → slice_index before.old j ≡ 0))) }
-    ensures ends { SetOf rows.now result (EndsBelow rows.now (length rows.now)) }
-    ensures before { Tabled rows.now before.new (LeadsBelow rows.now (length rows.now)) }
-{
-    let mut ends = 0;
-    for (e, row) in rows.iter().enumerate() {
-        if let Row::Def(x) = *row {
-            ends |= define(rows, numbers, e, x as usize, before);
+impl<'a> NumberedRows<'a> {
+    /// What the definition at row `e` with expression `x` adds to `before`, and the places after which it can end.
+    fn define(self, e: usize, x: usize, before: &mut [u64]) -> u64
+        requires { (at self.rows.now e ≡ some (def x)) × (length before.old ≡ 64) }
+        ensures ends { SetOf self.entry.rows.now result (EndsAt self.entry.rows.now e x) }
+        ensures grown { Grown self.entry.rows.now before.old before.new (LeadsAt self.entry.rows.now e x) }
+    {
+        let shape = self.expression(x, before);
+        let own = self.place(e);
+        link(before, own, shape.opening);
+        if shape.empty {
+            own | shape.closing
+        } else {
+            shape.closing
         }
     }
-    ends
-}
 
-/// Whether the row is a leaf of the kind.
-fn is_leaf(row: Row, kind: LeafKind) -> bool
-    ensures { T result ↔ OfKind kind row }
-{
-    match (kind, row) {
-        (LeafKind::Text, Row::Text) => true,
-        (LeafKind::Named, Row::Named(_, _)) => true,
-        (LeafKind::Any, Row::Any(_)) => true,
-        _ => false,
+    /// What all definitions add to `before`, and the places after which one can end.
+    fn define_all(self, before: &mut [u64]) -> u64
+        requires { (length before.old ≡ 64) × (((j : ℕ) → slice_index before.old j ≡ 0)) }
+        ensures ends { SetOf self.entry.rows.now result (EndsBelow self.entry.rows.now (length self.entry.rows.now)) }
+        ensures before { Tabled self.entry.rows.now before.new (LeadsBelow self.entry.rows.now (length self.entry.rows.now)) }
+    {
+        let mut ends = 0;
+        for (e, row) in self.rows.iter().enumerate() {
+            if let Row::Def(x) = *row {
+                ends |= self.define(e, usize::from(x), before);
+            }
+        }
+        ends
     }
-}
 
-/// The leaves of a kind.
-fn leaves(rows: &[Row], numbers: &[u8], kind: LeafKind) -> u64
-    requires { Ready rows.now numbers.now }
-    ensures { SetOf rows.now result (KindAt rows.now kind) }
-{
-    let mut all = 0;
-    for (p, row) in rows.iter().enumerate() {
-        if is_leaf(*row, kind) {
-            all |= bit(numbers[p]);
+    /// The leaves for one text, for a node with a label, and for a node of any label.
+    fn leaves(self) -> (u64, u64, u64)
+        ensures texts { SetOf self.entry.rows.now result.0 (TextAt self.entry.rows.now) }
+        ensures named { SetOf self.entry.rows.now result.1 (NamedAt self.entry.rows.now) }
+        ensures anys { SetOf self.entry.rows.now result.2 (AnyAt self.entry.rows.now) }
+    {
+        let mut texts = 0;
+        let mut named = 0;
+        let mut anys = 0;
+        for (p, row) in self.rows.iter().enumerate() {
+            match *row {
+                Row::Text => texts |= self.place(p),
+                Row::Named(_, _) => named |= self.place(p),
+                Row::Any(_) => anys |= self.place(p),
+                _ => {}
+            }
+        }
+        (texts, named, anys)
+    }
+
+    /// The labels of the leaves that have one.
+    fn fill_labels(self, labels: &mut [u16])
+        requires { length labels.old ≡ 64 }
+        ensures { Labels self.entry.rows.now (length self.entry.rows.now) labels.new }
+    {
+        for (p, row) in self.rows.iter().enumerate() {
+            if let Row::Named(label, _) = *row {
+                labels[usize::from(self.numbers[p])] = label;
+            }
         }
     }
-    all
-}
 
-/// The labels of the leaves that have one.
-fn fill_labels(rows: &[Row], numbers: &[u8], labels: &mut [u16])
-    requires { (Ready rows.now numbers.now) × (length labels.old ≡ 64) }
-    ensures { Labels rows.now (length rows.now) labels.new }
-{
-    for (p, row) in rows.iter().enumerate() {
-        if let Row::Named(label, _) = *row {
-            labels[numbers[p] as usize] = label;
+    /// The places of the definitions.
+    fn fill_homes(self, homes: &mut [u8])
+        requires { length homes.old ≡ 64 }
+        ensures { Homes self.entry.rows.now homes.new }
+    {
+        // Counted by hand and written by index, since a proof knows no element that was written through `iter_mut`.
+        let mut count: usize = 0;
+        for (e, row) in self.rows.iter().enumerate() {
+            if row.is_definition() {
+                homes[count] = self.numbers[e];
+                count += 1;
+            }
         }
     }
-}
 
-/// The places of the definitions.
-fn fill_homes(rows: &[Row], numbers: &[u8], homes: &mut [u8])
-    requires { (Ready rows.now numbers.now) × (length homes.old ≡ 64) }
-    ensures { Homes rows.now homes.new }
-{
-    let mut count: usize = 0;
-    for (e, row) in rows.iter().enumerate() {
-        if row.is_definition() {
-            homes[count] = numbers[e];
-            count += 1;
+    /// The leaves that have each definition as their content.
+    fn fill_holders(self, homes: &[u8], holders: &mut [u64])
+        requires homes { (Homes self.rows.now homes.now) × (length homes.now ≡ 64) }
+        requires none { (length holders.old ≡ 64) × (((j : ℕ) → slice_index holders.old j ≡ 0)) }
+        ensures { Tabled self.entry.rows.now holders.new (Holds self.entry.rows.now) }
+    {
+        for (p, row) in self.rows.iter().enumerate() {
+            if let Row::Named(_, d) | Row::Any(d) = *row {
+                link(holders, self.place(p), bit(homes[usize::from(d)]));
+            }
         }
     }
-}
 
-/// The leaves that have each definition as their content.
-fn fill_holders(rows: &[Row], numbers: &[u8], homes: &[u8], holders: &mut [u64])
-    requires ready { (Ready rows.now numbers.now) × ((AllThere rows.now) × (Homes rows.now homes.now)) }
-    requires homes_len { (length homes.now ≡ 64) × ((length holders.old ≡ 64) × (((j : ℕ) → slice_index holders.old j ≡ 0))) }
-    ensures { Tabled rows.now holders.new (Holds rows.now) }
-{
-    for (p, row) in rows.iter().enumerate() {
-        if let Row::Named(_, d) | Row::Any(d) = *row {
-            link(holders, bit(numbers[p]), bit(homes[d as usize]));
+    /// The tables of the sheet.
+    pub fn tables(self) -> Tables
+        ensures { Compiled self.entry.rows.now result }
+    {
+        let mut before = [0u64; 64];
+        let ends = self.define_all(&mut before);
+        let (texts, named, anys) = self.leaves();
+        let mut labels = [0u16; 64];
+        self.fill_labels(&mut labels);
+        let mut homes = [0u8; 64];
+        self.fill_homes(&mut homes);
+        let mut holders = [0u64; 64];
+        self.fill_holders(&homes, &mut holders);
+        Tables {
+            ends,
+            before,
+            texts,
+            named,
+            anys,
+            labels,
+            holders,
+            top: bit(homes[0]),
         }
-    }
-}
-
-/// The tables of rows whose places are numbered.
-pub fn compile(rows: &[Row], numbers: &[u8]) -> Tables
-    requires { (Ready rows.now numbers.now) × (AllThere rows.now) }
-    ensures { Compiled rows.now result }
-{
-    let mut before = [0u64; 64];
-    let ends = define_all(rows, numbers, &mut before);
-    let mut labels = [0u16; 64];
-    fill_labels(rows, numbers, &mut labels);
-    let mut homes = [0u8; 64];
-    fill_homes(rows, numbers, &mut homes);
-    let mut holders = [0u64; 64];
-    fill_holders(rows, numbers, &homes, &mut holders);
-    let top = bit(homes[0]);
-    let texts = leaves(rows, numbers, LeafKind::Text);
-    let named = leaves(rows, numbers, LeafKind::Named);
-    let anys = leaves(rows, numbers, LeafKind::Any);
-    Tables {
-        ends,
-        before,
-        texts,
-        named,
-        anys,
-        labels,
-        holders,
-        top,
     }
 }

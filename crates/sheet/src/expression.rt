@@ -1,9 +1,10 @@
 //! The leaves that come first, last and next in an expression (the construction of Berry and Sethi).
 
-ghost use Rattle.std.specs.Prelude.{◌≡◌, ◌^◌, ◌<◌, ◌&&◌, ◌||◌, length, if◌then◌else◌, bit_or};
-ghost use Rattle.sheet.specs.Shapes.{Grown, Ready, Shaped};
+ghost use Rattle.std.specs.Prelude.{◌≡◌, ◌<◌, ◌&&◌, ◌||◌, length, if◌then◌else◌, bit_or};
+ghost use Rattle.sheet.specs.Shapes.{Grown, Shaped};
 ghost use Rattle.rows.specs.Steps.{Next};
 
+use super::numbered::NumberedRows;
 use super::sets::link;
 use super::shape::Shape;
 use rows::Row;
@@ -44,54 +45,48 @@ fn either(a: Shape, b: Shape) -> Shape
     }
 }
 
-/// The bit of a place.
-pub fn bit(number: u8) -> u64
-    requires { number < 64 }
-    ensures { result ≡ 2 ^ number }
-{
-    1 << number
-}
-
-/// The shape of row `e`; for each leaf, the leaves that it can come right after in that row are added to `before`.
-pub fn expression(rows: &[Row], numbers: &[u8], e: usize, before: &mut [u64]) -> Shape
-    requires { (Ready rows.now numbers.now) × ((e < length rows.now) × (length before.old ≡ 64)) }
-    ensures shaped { Shaped rows.now e result }
-    ensures grown { Grown rows.now before.old before.new (λ q p. Next rows.now q p e) }
-{
-    match rows[e] {
-        Row::Empty => Shape {
-            empty: true,
-            opening: 0,
-            closing: 0,
-        },
-        Row::Text | Row::Named(_, _) | Row::Any(_) => {
-            let own = bit(numbers[e]);
-            Shape {
-                empty: false,
-                opening: own,
-                closing: own,
-            }
-        }
-        Row::Seq(a, b) => {
-            let first = expression(rows, numbers, a as usize, before);
-            let second = expression(rows, numbers, b as usize, before);
-            link(before, first.closing, second.opening);
-            in_turn(first, second)
-        }
-        Row::Alt(a, b) => {
-            let first = expression(rows, numbers, a as usize, before);
-            let second = expression(rows, numbers, b as usize, before);
-            either(first, second)
-        }
-        Row::Many(a) => {
-            let part = expression(rows, numbers, a as usize, before);
-            link(before, part.closing, part.opening);
-            Shape {
+impl<'a> NumberedRows<'a> {
+    /// The shape of row `e`; for each leaf, the leaves that it can come right after in that row are added to `before`.
+    pub fn expression(self, e: usize, before: &mut [u64]) -> Shape
+        requires { (e < length self.rows.now) × (length before.old ≡ 64) }
+        ensures shaped { Shaped self.entry.rows.now e result }
+        ensures grown { Grown self.entry.rows.now before.old before.new (λ q p. Next self.entry.rows.now q p e) }
+    {
+        match self.rows[e] {
+            Row::Empty => Shape {
                 empty: true,
-                opening: part.opening,
-                closing: part.closing,
+                opening: 0,
+                closing: 0,
+            },
+            Row::Text | Row::Named(_, _) | Row::Any(_) => {
+                let own = self.place(e);
+                Shape {
+                    empty: false,
+                    opening: own,
+                    closing: own,
+                }
             }
+            Row::Seq(a, b) => {
+                let first = self.expression(usize::from(a), before);
+                let second = self.expression(usize::from(b), before);
+                link(before, first.closing, second.opening);
+                in_turn(first, second)
+            }
+            Row::Alt(a, b) => {
+                let first = self.expression(usize::from(a), before);
+                let second = self.expression(usize::from(b), before);
+                either(first, second)
+            }
+            Row::Many(a) => {
+                let part = self.expression(usize::from(a), before);
+                link(before, part.closing, part.opening);
+                Shape {
+                    empty: true,
+                    opening: part.opening,
+                    closing: part.closing,
+                }
+            }
+            Row::Def(a) => self.expression(usize::from(a), before),
         }
-        Row::Def(a) => expression(rows, numbers, a as usize, before),
     }
 }

@@ -6,6 +6,7 @@ pub mod belong;
 pub mod checked;
 mod compile;
 mod expression;
+mod numbered;
 mod sets;
 pub mod shape;
 pub mod sound;

@@ -1,13 +1,5 @@
 //! What a sound sheet holds beside its rows, so that a standing is worked out by a few steps.
 
-/// The three kinds of leaves.
-#[derive(Clone, Copy)]
-pub enum LeafKind {
-    Text,
-    Named,
-    Any,
-}
-
 /// The tables of a sheet. Sets are sets of places, lists have an element for each place.
 #[derive(Clone, Copy)]
 pub struct Tables {

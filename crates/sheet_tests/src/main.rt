@@ -23,10 +23,8 @@ fn show(rt: &impl Print, body: &[u8]) -> io::Result<()> {
             println!(rt; "sound {rows} {places}")
         }
         Err(fault) => {
-            let number = fault.number;
-            let place = fault.place;
             let rows = held.len();
-            println!(rt; "refused {number} {place}, held {rows} rows")
+            println!(rt; "refused {fault}, held {rows} rows")
         }
     }
 }
@@ -36,11 +34,7 @@ fn show_record(rt: &impl Print, sheet: &[u8], body: &[u8]) -> io::Result<()> {
     let _ = hold(&mut held, sheet);
     match held.belongs(body) {
         Ok(yes) => println!(rt; "belongs {yes}"),
-        Err(fault) => {
-            let number = fault.number;
-            let place = fault.place;
-            println!(rt; "refused {number} {place}")
-        }
+        Err(fault) => println!(rt; "refused {fault}"),
     }
 }
 
@@ -117,29 +111,33 @@ fn whole(rt: &impl Print) -> io::Result<()> {
     show(rt, &[3, 0, 0, 1, 3, 0, 0, 0, 7, 1, 0, 0])
 }
 
-/// `count` definitions, each of one text; the content of row `at` is missing where `at` is below their rows.
-fn many(rt: &impl Print, count: usize, at: usize) -> io::Result<()> {
+/// `count` definitions, each of one text; if a definition is to miss its content, its text becomes a node with a content that is missing.
+fn many(rt: &impl Print, count: u8, missing: Option<u8>) -> io::Result<()> {
     let mut body = [0u8; 512];
     let count = count.min(64);
     for i in 0..count {
-        body[8 * i] = 1;
-        body[8 * i + 4] = 7;
-        body[8 * i + 5] = (2 * i) as u8;
+        let at = 8 * usize::from(i);
+        body[at] = 1;
+        body[at + 4] = 7;
+        body[at + 5] = 2 * i;
     }
-    if at < count {
-        body[8 * at] = 3;
-        body[8 * at + 3] = 200;
+    if let Some(i) = missing {
+        if i < count {
+            let at = 8 * usize::from(i);
+            body[at] = 3;
+            body[at + 3] = 200;
+        }
     }
-    show(rt, &body[0..8 * count])
+    show(rt, &body[..8 * usize::from(count)])
 }
 
 fn places(rt: &impl Print) -> io::Result<()> {
     println!(rt; "14: places, 13 before it")?;
-    many(rt, 32, 99)?;
-    many(rt, 33, 99)?;
-    many(rt, 64, 99)?;
-    many(rt, 33, 32)?;
-    many(rt, 33, 0)
+    many(rt, 32, None)?;
+    many(rt, 33, None)?;
+    many(rt, 64, None)?;
+    many(rt, 33, Some(32))?;
+    many(rt, 33, Some(0))
 }
 
 fn records(rt: &impl Print) -> io::Result<()> {

@@ -1,6 +1,7 @@
 -- What a store holds: its lists, the first first, and the memory that is free.
-use Rattle.std.specs.Prelude.{◌≡◌, ℕ, ◌-◌, ◌<◌, ◌≤◌, min, Bool, true, false, List, [], ◌∷◌, ◌++◌, length, drop, Some, None, vec_items, Option, slice_index_or}
+use Rattle.std.specs.Prelude.{◌≡◌, ℕ, ◌-◌, ◌<◌, ◌≤◌, min, List, [], ◌∷◌, ◌++◌, length, drop, Some, None, Ok, Err, vec_items, Option, Result, slice_index_or}
 use Rattle.std.specs.Borrow.{Bor}
+use Rattle.store.specs.declared.Full.{Full}
 use Rattle.store.specs.declared.Store.{Store}
 use Rattle.store.specs.Packing.{cuts, total}
 
@@ -22,10 +23,10 @@ pub record Appended {T : Type 0} {N : ℕ} (s : Store T N) (x : List T) (s' : St
   pub left : free s' ≡ drop (length x) (free s)
   pub same_limit : s'.limit ≡ s.limit
 
--- The list is appended where there is room for it, and else nothing changes.
-abbrev pub Appends : {T : Type 0} {N : ℕ} → Store T N → List T → Bool → Store T N → Type 0
-Appends s x true s' = Takes s (length x) × Appended s x s'
-Appends s x false s' = (Takes s (length x) → ⊥) × (s' ≡ s)
+-- The list is appended where there is room for it, and its index is told; else nothing changes.
+abbrev pub Appends : {T : Type 0} {N : ℕ} → Store T N → List T → Result ℕ Full → Store T N → Type 0
+Appends s x (Ok index) s' = Takes s (length x) × (index ≡ length (lists s)) × Appended s x s'
+Appends s x (Err full) s' = (Takes s (length x) → ⊥) × (s' ≡ s)
 
 -- The list of the index, where there is one.
 abbrev pub Found : {T : Type 0} → List (List T) → ℕ → Option (Bor (List T)) → Type 0

@@ -1,16 +1,8 @@
 // The calls of a store.
-ghost use Rattle.std.specs.Prelude.{◌≡◌, ℕ, ◌+◌, ◌<◌, ◌≤◌, List, [], ◌∷◌, ◌++◌, length, take, drop, slice_index_or};
+ghost use Rattle.std.specs.Prelude.{◌≡◌, ◌+◌, ◌≤◌, [], ◌++◌, length, take, drop};
 ghost use Rattle.store.specs.Stores.{lists, free, Takes, Appended, Appends, Found};
 
-use super::{Span, Store};
-
-/// Writes `body` into `memory` from `at` on.
-fn paste<T: Copy>(memory: &mut [T], at: usize, body: &[T])
-    requires { at + length body.now ≤ length memory.old }
-    ensures { memory.new ≡ take at memory.old ++ (body.now ++ drop (at + length body.now) memory.old) }
-{
-    memory[at..at + body.len()].copy_from_slice(body);
-}
+use super::{Full, Span, Store};
 
 impl<T: Copy, const N: usize> Store<T, N> {
     /// An empty store over the memory, of which at most `limit` items are used.
@@ -22,57 +14,43 @@ impl<T: Copy, const N: usize> Store<T, N> {
         Store {
             memory,
             limit,
-            spans: [Span {
-                start: 0,
-                length: 0,
-            }; N],
+            spans: [Span { start: 0, end: 0 }; N],
             count: 0,
             used: 0,
         }
     }
 
-    /// One more list, where there is room for it.
-    pub fn append(&mut self, body: &[T]) -> bool
+    /// One more list, where there is room for it. Tells its index.
+    pub fn append(&mut self, body: &[T]) -> Result<usize, Full>
         ensures { Appends self.old body.now result self.new }
     {
         if !self.takes(body.len()) {
-            return false;
+            return Err(Full);
         }
-        self.push(body);
-        true
+        Ok(self.push(body))
     }
 
-    // One more list.
-    fn push(&mut self, body: &[T])
+    /// One more list, for which there is room. Tells its index.
+    pub fn push(&mut self, body: &[T]) -> usize
         requires { Takes self.old (length body.now) }
-        ensures { Appended self.old body.now self.new }
+        ensures index { result ≡ length (lists self.old) }
+        ensures appended { Appended self.old body.now self.new }
     {
+        let index = self.count;
         let start = self.used;
-        let length = body.len();
-        paste(&mut self.memory, start, body);
-        self.spans[self.count] = Span { start, length };
-        self.count += 1;
-        self.used = start + length;
+        let end = start + body.len();
+        self.memory[start..end].copy_from_slice(body);
+        self.spans[index] = Span { start, end };
+        self.count = index + 1;
+        self.used = end;
+        index
     }
 
     /// The list of an index, where there is one.
     pub fn get(&self, index: usize) -> Option<&[T]>
         ensures { Found (lists self.now) index result }
     {
-        if index >= self.count {
-            return None;
-        }
-        Some(self.list(index))
-    }
-
-    // The list of an index.
-    fn list(&self, index: usize) -> &[T]
-        requires { index < length (lists self.now) }
-        ensures { result.now ≡ slice_index_or (lists self.now) index [] }
-    {
-        let span = self.spans[index];
-        let start = span.start;
-        let end = start + span.length;
-        &self.memory[start..end]
+        let span = self.spans[..self.count].get(index)?;
+        Some(&self.memory[span.start..span.end])
     }
 }

@@ -2,17 +2,21 @@
 
 #![tactic(auto)]
 
-ghost use Rattle.std.specs.Prelude.{◌≡◌, ◌-◌, ◌≤◌, length, drop, vec_len};
+ghost use Rattle.std.specs.Prelude.{◌≡◌, ◌≤◌, length, vec_len};
 ghost use Rattle.store.specs.Packing.{Apart, cuts, total};
 
 mod calls;
 mod room;
 
-/// Where a list lies in the memory.
+/// There is no room for one more list.
+#[derive(Clone, Copy, PartialEq, Eq, Debug)]
+pub struct Full;
+
+/// Where a list lies in the memory. (A `Range` is not `Copy`, and so cannot be repeated in an array.)
 #[derive(Clone, Copy)]
 pub struct Span {
     start: usize,
-    length: usize,
+    end: usize,
 }
 
 /// At most `N` lists, each right after the one before, in the first `limit` items of the memory.
@@ -26,7 +30,5 @@ pub struct Store<T, const N: usize> {
     ghost few: { (count ≤ N) × (length spans ≡ N) },
     ghost within: { (used ≤ vec_len memory) × (used ≤ limit) },
     ghost apart: { Apart spans count used },
-    ghost counted: { length (cuts memory.items spans count) ≡ count },
-    ghost left: { length (drop used memory.items) ≡ vec_len memory - used },
     ghost filled: { used ≡ total (cuts memory.items spans count) },
 }

@@ -1,5 +1,6 @@
 // How much a store holds, and whether there is room for more.
-ghost use Rattle.std.specs.Prelude.{◌≡◌, true, false, length};
+ghost use Rattle.std.specs.Prelude.{◌≡◌, ◌↔◌, length};
+ghost use Rattle.std.specs.Bool.{IsTrue};
 ghost use Rattle.store.specs.Stores.{lists, Takes};
 
 use super::Store;
@@ -14,8 +15,7 @@ impl<T: Copy, const N: usize> Store<T, N> {
 
     /// Is there room for one more list of `n` items?
     pub fn takes(&self, n: usize) -> bool
-        ensures yes { result ≡ true → Takes self.now n }
-        ensures no { result ≡ false → Takes self.now n → ⊥ }
+        ensures { IsTrue result ↔ Takes self.now n }
     {
         let end = self.limit.min(self.memory.len());
         n <= end - self.used && self.count < N

@@ -1,8 +1,15 @@
 -- What stands at the front of an input, from the bytes at its places; and that just one answer fits.
-use Rattle.std.proofs.Common.{◌≡◌, ℕ, ◌+◌, ◌-◌, ◌*◌, ◌<◌, ◌≤◌, ◌⊎◌, List, [], ◌∷◌, ◌++◌, length, get_or, take, drop, sym, refl, ap, ◌∙◌, inl, inr, arith, length-append, take-append-drop}
-use Rattle.std.proofs.lemmas.List.{take_rest, take_at, drop_at, length-take-le}
+use Rattle.std.proofs.Common.{◌≡◌, ℕ, ◌+◌, ◌-◌, ◌*◌, ◌<◌, ◌≤◌, ◌⊎◌, List, [], ◌∷◌, ◌++◌, length, get_or, take, drop, sym, refl, ap, ◌∙◌, inl, inr, arith, length-append, length-drop, take-append-drop, subst}
+use Rattle.std.proofs.lemmas.List.{take_rest, drop_more, take_at, drop_at, length-take-le}
 use Rattle.std.proofs.lemmas.Bool.{cases_lt, cases_eq}
 use Rattle.stream.specs.Stream.{Kind, a_sheet, a_record, Mark, Answer, at_end, entry, refused, Front, nothing, whole, in_mark, in_length, in_body, no_mark, JustOneFront}
+
+-- The bytes at the first places, and what follows them.
+two : (s : List ℕ) → 2 ≤ length s → s ≡ get_or s 0 0 ∷ (get_or s 1 0 ∷ drop 2 s)
+two s n = drop_more s 0 0 (omega arith) ∙ ap (λ r. get_or s 0 0 ∷ r) (drop_more s 1 0 (omega arith))
+
+four : (s : List ℕ) → 4 ≤ length s → s ≡ get_or s 0 0 ∷ (get_or s 1 0 ∷ (get_or s 2 0 ∷ (get_or s 3 0 ∷ drop 4 s)))
+four s n = two s (omega arith) ∙ ap (λ r. get_or s 0 0 ∷ (get_or s 1 0 ∷ r)) (drop_more s 2 0 (omega arith) ∙ ap (λ r. get_or s 2 0 ∷ r) (drop_more s 3 0 (omega arith)))
 
 pub nothing_at : (s : List ℕ) → length s < 1 → Front s at_end
 nothing_at [] h = nothing
@@ -10,12 +17,8 @@ nothing_at (a ∷ s) h = absurd (omega arith)
 
 pub whole_at : (k : Kind) (s body rest : List ℕ) → 4 ≤ length s → Mark k (get_or s 0 0) (get_or s 1 0)
     → take (length s - 4) (drop 4 s) ≡ body ++ rest → length body ≡ get_or s 2 0 * 256 + get_or s 3 0 → Front s (entry k body rest)
-whole_at k [] body rest n m e x = absurd (omega arith)
-whole_at k (a ∷ []) body rest n m e x = absurd (omega arith)
-whole_at k (a ∷ (b ∷ [])) body rest n m e x = absurd (omega arith)
-whole_at k (a ∷ (b ∷ (h ∷ []))) body rest n m e x = absurd (omega arith)
-whole_at k (a ∷ (b ∷ (h ∷ (l ∷ s)))) body rest n m e x =
-    let d : s ≡ body ++ rest = sym (take_rest (a ∷ (b ∷ (h ∷ (l ∷ s)))) 4) ∙ e in rw d (whole k m x)
+whole_at k s body rest n m e x =
+    subst (λ t. Front t (entry k body rest)) (sym (four s n)) (rw (sym (take_rest s 4) ∙ e) (whole k m x))
 
 pub in_mark_at : (s : List ℕ) → 1 ≤ length s → length s < 2 → Front s (refused 1 0)
 in_mark_at [] n h = absurd (omega arith)
@@ -23,25 +26,18 @@ in_mark_at (a ∷ []) n h = in_mark
 in_mark_at (a ∷ (b ∷ s)) n h = absurd (omega arith)
 
 pub in_length_at : (k : Kind) (s : List ℕ) → 2 ≤ length s → length s < 4 → Mark k (get_or s 0 0) (get_or s 1 0) → Front s (refused 1 0)
-in_length_at k [] n h m = absurd (omega arith)
-in_length_at k (a ∷ []) n h m = absurd (omega arith)
-in_length_at k (a ∷ (b ∷ s)) n h m = in_length k m (omega arith)
+in_length_at k s n h m = subst (λ t. Front t (refused 1 0)) (sym (two s n)) (in_length k m (omega (arith, length-drop 2 s)))
 
 pub in_body_at : (k : Kind) (s : List ℕ) → 4 ≤ length s → Mark k (get_or s 0 0) (get_or s 1 0)
     → length (take (length s - 4) (drop 4 s)) < get_or s 2 0 * 256 + get_or s 3 0 → Front s (refused 1 0)
-in_body_at k [] n m x = absurd (omega arith)
-in_body_at k (a ∷ []) n m x = absurd (omega arith)
-in_body_at k (a ∷ (b ∷ [])) n m x = absurd (omega arith)
-in_body_at k (a ∷ (b ∷ (h ∷ []))) n m x = absurd (omega arith)
-in_body_at k (a ∷ (b ∷ (h ∷ (l ∷ s)))) n m x =
-    in_body k m (rw (take_rest (a ∷ (b ∷ (h ∷ (l ∷ s)))) 4) at x)
+in_body_at k s n m x = subst (λ t. Front t (refused 1 0)) (sym (four s n)) (in_body k m (rw (take_rest s 4) at x))
 
 pub no_mark_at : (s : List ℕ) → 2 ≤ length s
     → (get_or s 0 0 ≡ 0x54 → get_or s 1 0 ≡ 0x53 → ⊥) → (get_or s 0 0 ≡ 0x52 → get_or s 1 0 ≡ 0x43 → ⊥) → Front s (refused 2 0)
-no_mark_at [] n f g = absurd (omega arith)
-no_mark_at (a ∷ []) n f g = absurd (omega arith)
-no_mark_at (a ∷ (b ∷ s)) n f g =
-    no_mark (λ k. elim k as (λ k. Mark k a b → ⊥) [ a_sheet ↦ λ m. f m.0 m.1 | a_record ↦ λ m. g m.0 m.1 ])
+no_mark_at s n f g =
+    let h : (k : Kind) → Mark k (get_or s 0 0) (get_or s 1 0) → ⊥
+    = λ k. elim k as (λ k. Mark k (get_or s 0 0) (get_or s 1 0) → ⊥) [ a_sheet ↦ λ m. f m.0 m.1 | a_record ↦ λ m. g m.0 m.1 ] in
+    subst (λ t. Front t (refused 2 0)) (sym (two s n)) (no_mark h)
 
 -- What an answer says of the bytes after a mark.
 abbrev Sized : Kind → List ℕ → Answer → Type 0
@@ -137,6 +133,8 @@ some_front (a ∷ (b ∷ s)) = elim (known a b) [
 
 pub just_one_front : JustOneFront
 just_one_front s = let x = some_front s in (x.0, x.1, λ y p. one_says s y x.0 (says p) (says x.1))
+
+pub ruleset fronts = (nothing_at, whole_at, in_mark_at, in_length_at, in_body_at, no_mark_at, just_one_front)
 
 -- What follows an entry is shorter than the input that it was taken off.
 pub shorter : {s body rest : List ℕ} {k : Kind} → Front s (entry k body rest) → length rest < length s

@@ -1,4 +1,5 @@
 -- Lines: what is told of an entry.
+use Rattle.forest.specs.Refusals.{number_of}
 use Rattle.std.specs.Prelude.{◌≡◌, ℕ, Bool, true, false, cond, List, [], ◌∷◌, ◌++◌, length, take, codes, decimal, nat_lt}
 use Rattle.stream.specs.Written.{padded, hex}
 use Rattle.stream.specs.declared.buffer.LineBuffer.{LineBuffer}
@@ -30,8 +31,8 @@ loss_if false size show = word (codes "not shown")
 abbrev pub fields : Line → (show : List ℕ) → List Field
 fields (Edition k) show = word (codes "edition") ∷ (number k ∷ [])
 fields (Record k) show = word (codes "record") ∷ (number k ∷ [])
-fields (Refused f) show = word (codes "refused") ∷ (number f.number ∷ (number f.place ∷ []))
-fields (Lost cost size seen) show = word (codes "refused") ∷ (number 36 ∷ (number cost ∷ (number size ∷ (loss_if seen size show ∷ []))))
+fields (Refused f) show = word (codes "refused") ∷ (number (number_of f.refusal) ∷ (number f.place ∷ []))
+fields (Lost l) show = word (codes "refused") ∷ (number 36 ∷ (number l.cost ∷ (number l.length ∷ (loss_if l.shown l.length show ∷ []))))
 
 -- A space before each field, and 0A at the end.
 abbrev pub spaced : List Field → List ℕ
@@ -44,5 +45,5 @@ line_text n fs = decimal n ++ spaced fs
 
 -- The buffer says the fields for the entry of this number: the text at the front of the 8,320 bytes, the rest 0.
 pub record Says (buffer : LineBuffer) (number : ℕ) (fs : List Field) : Type 0 where
-  pub bytes : buffer.held.line ≡ padded 8320 (line_text number fs)
-  pub text_length : buffer.held.count ≡ length (line_text number fs)
+  pub bytes : buffer.line ≡ padded 8320 (line_text number fs)
+  pub text_length : buffer.count ≡ length (line_text number fs)

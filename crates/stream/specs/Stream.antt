@@ -1,4 +1,5 @@
 -- Streams: what stands at the front of an input.
+use Rattle.forest.specs.Refusals.{number_of}
 use Rattle.std.specs.Prelude.{◌≡◌, ℕ, ◌+◌, ◌*◌, ◌<◌, List, [], ◌∷◌, ◌++◌, length, Some, None, Ok, Err, Option, Result}
 use Rattle.forest.specs.declared.fault.Fault.{Fault}
 use Rattle.stream.specs.declared.entry.Taken.{Taken}
@@ -49,4 +50,4 @@ body_of (Record b) = b.now
 abbrev pub answer : Result (Option Taken) Fault → Answer
 answer (Ok None) = at_end
 answer (Ok (Some t)) = entry (kind_of t.entry) (body_of t.entry) t.rest.now
-answer (Err f) = refused f.number f.place
+answer (Err f) = refused (number_of f.refusal) f.place

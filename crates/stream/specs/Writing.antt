@@ -1,13 +1,16 @@
 -- What the private functions that write text promise each other. No public contract speaks of it.
-use Rattle.std.specs.Prelude.{◌≡◌, ℕ, ◌+◌, List, ◌++◌, length}
-use Rattle.stream.specs.Written.{padded}
-use Rattle.stream.specs.declared.writer.Writer.{Writer}
+use Rattle.std.specs.Prelude.{◌≡◌, ℕ, ◌+◌, ◌≤◌, List, ◌++◌, length, take}
+use Rattle.stream.specs.declared.buffer.LineBuffer.{LineBuffer}
 
--- The writer holds the text.
-abbrev pub Holds : Writer → List ℕ → Type 0
-Holds w t = (w.count ≡ length t) × (w.line ≡ padded 8320 t)
+-- The text at the front of the buffer.
+abbrev pub text_of : LineBuffer → List ℕ
+text_of b = take b.count b.line
 
--- The first writer has become the second by adding the bytes.
-pub record Adds (v : Writer) (s : List ℕ) (w : Writer) : Type 0 where
+-- Besides its text, so many more bytes fit.
+abbrev pub HasRoom : LineBuffer → ℕ → Type 0
+HasRoom b n = b.count + n ≤ 8320
+
+-- The first buffer has become the second by adding the bytes to its text.
+pub record Adds (v : LineBuffer) (s : List ℕ) (w : LineBuffer) : Type 0 where
   pub counts : w.count ≡ v.count + length s
-  pub holds : (t : List ℕ) → Holds v t → Holds w (t ++ s)
+  pub text : text_of w ≡ text_of v ++ s

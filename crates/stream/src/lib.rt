@@ -7,7 +7,6 @@ pub mod entry;
 pub mod line;
 #[cfg(test)]
 mod tests;
-mod writer;
 
 pub use buffer::LineBuffer;
 pub use entry::{Entry, Taken, take};

@@ -1,124 +1,99 @@
 //! Lines: what is told of each entry of a stream.
-ghost use Rattle.std.specs.Prelude.{◌≡◌, ℕ, ◌≤◌, List, ◌∷◌, take, replicate};
-ghost use Rattle.stream.specs.Line.{Field, Says, fields, line_text, loss, loss_if, shown, spaced};
-ghost use Rattle.stream.specs.Writing.{Adds};
+ghost use Rattle.std.specs.Prelude.{◌∷◌};
+ghost use Rattle.stream.specs.Line.{Says, fields, loss, loss_if, shown, spaced};
+ghost use Rattle.stream.specs.Writing.{Adds, HasRoom};
 ghost use Rattle.stream.specs.Written.{HexStands, OneNumeral};
 
 use crate::buffer::LineBuffer;
-use crate::writer::Writer;
 use forest::Fault;
+use loss::Loss;
 
 /// The most bytes of a lost record that a line shows.
 const MOST_SHOWN: usize = 4096;
 
 /// What became of an entry.
-#[derive(Clone, Copy)]
+#[derive(Clone, Copy, PartialEq, Eq, Debug)]
 pub enum Line {
     /// A sheet is the edition of this number.
     Edition(usize),
     /// A record was kept under this number.
     Record(usize),
     Refused(Fault),
-    /// A sheet would lose a record: what it costs, its length, and whether it is at the front of the show buffer.
-    Lost { cost: u32, length: u32, shown: bool },
+    /// A sheet would lose a record, which is at the front of the show buffer if it is shown.
+    Lost(Loss<u32>),
 }
 
 /// Adds the bytes of a lost record.
-fn add_bytes(w: &mut Writer, bytes: &[u8])
-    requires { w.old.count ≤ 100 }
-    ensures adds { Adds w.old (0x20 ∷ shown (loss bytes.now)) w.new }
-    ensures within { w.new.count ≤ 8300 }
+fn add_bytes(buffer: &mut LineBuffer, bytes: &[u8])
+    requires { HasRoom buffer.old 8193 }
+    ensures { Adds buffer.old (0x20 ∷ shown (loss bytes.now)) buffer.new }
 {
     if bytes.is_empty() {
-        w.word(b"-");
+        buffer.word(b"-");
     } else if bytes.len() > MOST_SHOWN {
-        w.word(b"not shown");
+        buffer.word(b"not shown");
     } else {
-        w.byte(b' ');
-        w.hex(bytes);
+        buffer.byte(b' ');
+        buffer.hex(bytes);
     }
 }
 
 /// Adds the bytes of a lost record, if it is shown.
-fn add_loss(w: &mut Writer, size: u32, seen: bool, show: &[u8])
-    requires { w.old.count ≤ 100 }
-    ensures adds { Adds w.old (0x20 ∷ shown (loss_if seen size show.now)) w.new }
-    ensures within { w.new.count ≤ 8300 }
+fn add_loss(buffer: &mut LineBuffer, loss: &Loss<u32>, show: &[u8])
+    requires { HasRoom buffer.old 8193 }
+    ensures { Adds buffer.old (0x20 ∷ shown (loss_if loss.now.shown loss.now.length show.now)) buffer.new }
 {
-    if seen {
-        let end = show.len().min(size as usize);
-        add_bytes(w, &show[0..end]);
+    if loss.shown {
+        let end = show.len().min(loss.length as usize);
+        add_bytes(buffer, &show[..end]);
     } else {
-        w.word(b"not shown");
+        buffer.word(b"not shown");
     }
 }
 
 impl Line {
-    fn add_fields(&self, w: &mut Writer, show: &[u8])
-        requires { w.old.count ≤ 20 }
-        ensures adds { Adds w.old (spaced (fields self.now show.now)) w.new }
-        ensures within { w.new.count ≤ 8320 }
+    /// Adds the fields, and the line's end.
+    #[tactic(auto, using(crate::proofs::Writes::short_loss))]
+    fn add_fields(&self, buffer: &mut LineBuffer, show: &[u8])
+        requires { HasRoom buffer.old 8300 }
+        ensures { Adds buffer.old (spaced (fields self.now show.now)) buffer.new }
     {
         match self {
             Line::Edition(number) => {
-                w.word(b"edition");
-                w.number(*number);
+                buffer.word(b"edition");
+                buffer.number(*number);
             }
             Line::Record(number) => {
-                w.word(b"record");
-                w.number(*number);
+                buffer.word(b"record");
+                buffer.number(*number);
             }
             Line::Refused(fault) => {
-                w.word(b"refused");
-                w.number(fault.number as usize);
-                w.number(fault.place);
+                buffer.word(b"refused");
+                buffer.number(usize::from(fault.refusal.number()));
+                buffer.number(fault.place);
             }
-            Line::Lost {
-                cost,
-                length,
-                shown,
-            } => {
-                w.word(b"refused");
-                w.number(36);
-                w.number(*cost as usize);
-                w.number(*length as usize);
-                add_loss(w, *length, *shown, show);
+            Line::Lost(loss) => {
+                buffer.word(b"refused");
+                buffer.number(36);
+                buffer.number(loss.cost as usize);
+                buffer.number(loss.length as usize);
+                add_loss(buffer, loss, show);
             }
         }
-        w.byte(b'\n');
+        buffer.byte(b'\n');
     }
 }
 
 impl LineBuffer {
-    /// A buffer with no text.
-    pub fn new() -> LineBuffer
-        ensures { (result.held.line ≡ replicate 8320 0) × (result.held.count ≡ 0) }
-    {
-        LineBuffer {
-            held: Writer {
-                line: [0; 8320],
-                count: 0,
-            },
-        }
-    }
-
     /// Makes the line for the entry of this number, in place of what was there.
+    #[tactic(auto, using(crate::proofs::Numerals::decimal_short))]
     pub fn make(&mut self, number: usize, line: &Line, show: &[u8])
         ensures says { Says self.new number (fields line.now show.now) }
         ensures numerals { OneNumeral }
         ensures digits { HexStands }
     {
-        self.held.clear();
-        self.held.digits(number);
-        line.add_fields(&mut self.held, show);
-    }
-
-    /// The text, without the zeros after it.
-    pub fn text(&self) -> &[u8]
-        ensures front { result.now ≡ take self.now.held.count self.now.held.line }
-        ensures said { (n : ℕ) (fs : List Field) → Says self.now n fs → result.now ≡ line_text n fs }
-    {
-        let count = self.held.count;
-        &self.held.line[0..count]
+        self.clear();
+        self.digits(number);
+        line.add_fields(self, show);
     }
 }

@@ -65,11 +65,6 @@ module _ {C : Type 0} (Γ : Setting C) where
   pub le_at : (x y z w : Sort C) → z ≡ x → w ≡ y → Γ.le x.cost y.cost → Γ.le z.cost w.cost
   le_at x y z w p q h = subst (λ (u : Sort C). Γ.le u.cost w.cost) (sym p) (subst (λ (u : Sort C). Γ.le x.cost u.cost) (sym q) h)
 
-  pub covered_same : (e e' : ℕ → Sort C) (len : ℕ) → ((k : ℕ) → k < len → e' k ≡ e k) → (σ : Standings) (c : C) → Covered Γ e len σ c → Covered Γ e' len σ c
-  covered_same e e' len same σ c z =
-      let q = same z.0 z.1 in
-      (z.0, z.1, standings_at q ∙ z.2, subst (λ (u : Sort C). Γ.le u.cost c) (sym q) z.3)
-
   pub covered_at : (e : ℕ → Sort C) (len : ℕ) (σ τ : Standings) (b c : C) → σ ≡ τ → b ≡ c → Covered Γ e len σ b → Covered Γ e len τ c
   covered_at e len σ τ b c p q z = (z.0, z.1, z.2 ∙ p, subst (Γ.le (e z.0).cost) q z.3)
 

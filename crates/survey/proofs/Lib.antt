@@ -1,8 +1,7 @@
 mod Basics
-mod Cheapest
 mod Finishes
+mod KeptTrees
 mod Loops
 mod Puts
 mod Relaxes
-mod Stocking
 mod Swaps

@@ -1,13 +1,14 @@
 -- The steps of the loops.
-use Rattle.std.proofs.Common.{◌≡◌, ℕ, ◌+◌, ◌<◌, ◌≤◌, ◌⊎◌, sym, refl, ap, subst, inl, inr, arith}
+use Rattle.std.proofs.Common.{◌≡◌, ℕ, ◌+◌, ◌<◌, ◌≤◌, ◌⊎◌, List, set, sym, refl, ap, ◌∙◌, subst, get_or-set_same, inl, inr, arith, length, slice_index}
 use Rattle.survey.specs.declared.types.Sort.{Sort}
 use Rattle.forest.specs.declared.fault.Fault.{Fault}
 use Rattle.survey.specs.declared.types.First.TheVariants.{Nothing}
 use Rattle.survey.proofs.Basics.{below_or_at, covering_on, good_at, le_self}
-use Rattle.survey.specs.Survey.{Covers, Refused, Setting}
+use Rattle.survey.specs.Survey.{Covers, Refused, Setting, blank, entry}
 use Rattle.forest.specs.Forest.{Forest, nil}
 use Rattle.survey.specs.declared.types.Leaves.{Leaves}
-use Rattle.survey.specs.Steps.{Closed, Formed, Grown, Kept, NodeCovered, NodesAround, Sound, TextCovered, TreeCovered, as_nil, node_cost}
+use Rattle.survey.specs.Sorting.{Sorts}
+use Rattle.survey.specs.Steps.{Closed, Formed, Full, Grown, Kept, Offered, another, better, no_better, NodeCovered, NodesAround, Sound, TextCovered, TreeCovered, as_nil, node_cost}
 
 -- another count of the same room
 pub kept_cap : {C : Type 0} {Γ : Setting C} {e : ℕ → Sort C} {done len cap cap' : ℕ} → cap ≡ cap' → Kept Γ e done len cap → Kept Γ e done len cap'
@@ -15,9 +16,6 @@ kept_cap {Γ} {e} {done} {len} eq h = subst (λ (c : ℕ). Kept Γ e done len c)
 
 pub grown_cap : {C : Type 0} {Γ : Setting C} {e e' : ℕ → Sort C} {done len n cap cap' : ℕ} → cap ≡ cap' → Grown Γ e e' done len n cap → Grown Γ e e' done len n cap'
 grown_cap {Γ} {e} {e'} {done} {len} {n} eq h = subst (λ (c : ℕ). Grown Γ e e' done len n c) eq h
-
-pub refused_cap : {C : Type 0} {Γ : Setting C} {cap cap' : ℕ} {f : Fault} → cap ≡ cap' → Refused Γ cap f → Refused Γ cap' f
-refused_cap {Γ} {f} eq h = subst (λ (c : ℕ). Refused Γ c f) eq h
 
 pub covered_node : {C : Type 0} (Γ : Setting C) (e : ℕ → Sort C) (n l : ℕ) (x x' y y' : Sort C) → x ≡ x' → y ≡ y' → NodeCovered Γ l x y e n → NodeCovered Γ l x' y' e n
 covered_node {C} Γ e n l x x' y y' p q z = subst (λ (u : Sort C). NodeCovered Γ l u y' e n) p (subst (λ (u : Sort C). NodeCovered Γ l x u e n) q z)
@@ -45,7 +43,7 @@ module _ {C : Type 0} {Γ : Setting C} (so : Sound Γ) where
         bare = covering_on Γ e e' (last + 1) len n cap g (λ f. f ≡ nil) _ so.laws.good_nil (λ f p. subst (λ (f : Forest). Covers Γ e len f Γ.costs.of_nil) (sym p) closed.bare) nil refl;
         texts = λ r h. covered_text Γ e' n (e r) (e' r) (sym (g.same r h)) (go_text r (below_or_at r last h));
         nodes = λ i c r hi hc hr.
-            covered_node Γ e' n (Γ.sorts.label i) (e c) (e' c) (e r) (e' r) (sym (g.same c hc)) (sym (g.same r hr))
+            covered_node Γ e' n (slice_index Γ.sorts.labels i) (e c) (e' c) (e r) (e' r) (sym (g.same c hc)) (sym (g.same r hr))
             (go_node i c r hi hc hr (below_or_at c last hc) (below_or_at r last hr));
       }
     where
@@ -53,11 +51,11 @@ module _ {C : Type 0} {Γ : Setting C} (so : Sound Γ) where
       go_text r (inl lt) = covering_on Γ e e' (last + 1) len n cap g _ _ (so.laws.good_text 0 _ (good_old e e' last len n cap g r (omega arith))) (closed.texts r lt)
       go_text r (inr p) = covered_text Γ e' n (e last) (e r) (ap e (sym p)) text
 
-      go_node : (i c r : ℕ) → i < Γ.sorts.count → c < last + 1 → r < last + 1 → (c < last) ⊎ (c ≡ last) → (r < last) ⊎ (r ≡ last)
-          → NodeCovered Γ (Γ.sorts.label i) (e c) (e r) e' n
+      go_node : (i c r : ℕ) → i < length Γ.sorts.labels → c < last + 1 → r < last + 1 → (c < last) ⊎ (c ≡ last) → (r < last) ⊎ (r ≡ last)
+          → NodeCovered Γ (slice_index Γ.sorts.labels i) (e c) (e r) e' n
       go_node i c r hi hc hr (inl lc) (inl lr) = covering_on Γ e e' (last + 1) len n cap g _ _ (node_good e e' last len n cap g c r (omega arith) (omega arith)) (closed.nodes i c r hi lc lr)
-      go_node i c r hi hc hr (inl lc) (inr p) = covered_node Γ e' n (Γ.sorts.label i) (e c) (e c) (e last) (e r) refl (ap e (sym p)) (labels i c hi hc).1
-      go_node i c r hi hc hr (inr p) q = covered_node Γ e' n (Γ.sorts.label i) (e last) (e c) (e r) (e r) (ap e (sym p)) refl (labels i r hi hr).0
+      go_node i c r hi hc hr (inl lc) (inr p) = covered_node Γ e' n (slice_index Γ.sorts.labels i) (e c) (e c) (e last) (e r) refl (ap e (sym p)) (labels i c hi hc).1
+      go_node i c r hi hc hr (inr p) q = covered_node Γ e' n (slice_index Γ.sorts.labels i) (e last) (e c) (e r) (e r) (ap e (sym p)) refl (labels i r hi hr).0
 
   -- nil alone
   module _ (e : ℕ → Sort C) (cap : ℕ) (room : 0 < cap) (first : (e 0).first ≡ Nothing) (s : Γ.sorts.has nil (e 0).standings) (c : (e 0).cost ≡ Γ.costs.of_nil) (l : (e 0).length ≡ 0) where
@@ -67,7 +65,7 @@ module _ {C : Type 0} {Γ : Setting C} (so : Sound Γ) where
     fine_zero : Γ.good (e 0).cost
     fine_zero = subst Γ.good (sym c) so.laws.good_nil
 
-    pub start_kept : Kept Γ e 0 1 cap
+    start_kept : Kept Γ e 0 1 cap
     start_kept =
         record {
           sound = so;
@@ -80,10 +78,47 @@ module _ {C : Type 0} {Γ : Setting C} (so : Sound Γ) where
           ascending = λ i j hi le hj. absurd (omega arith);
         }
 
-    pub start_closed : Closed Γ e 0 1
+    start_closed : Closed Γ e 0 1
     start_closed =
         record {
           bare = (0, omega arith, s, subst (Γ.le (e 0).cost) c (le_self so (e 0).cost fine_zero));
           texts = λ r h. absurd (omega arith);
           nodes = λ i a r hi ha hr. absurd (omega arith);
         }
+
+  -- the sort of nil, offered to no sorts
+  pub started : (xs ys : List (Sort C)) (len n : ℕ) (x : Sort C) → len ≡ 0 → x.first ≡ Nothing → Γ.sorts.has nil x.standings → x.cost ≡ Γ.costs.of_nil → x.length ≡ 0
+      → Offered Γ.le (blank Γ) xs len x ys n → Kept Γ (entry Γ ys) 0 n (length xs) × Closed Γ (entry Γ ys) 0 n
+  started xs ys len n x none first s c l (no_better k lt eq le p q) = absurd (omega arith)
+  started xs ys len n x none first s c l (better k lt eq higher p q) = absurd (omega arith)
+  started xs ys len n x none first s c l (another absent room p q) = rw (p, q, none) start
+    where
+      e : ℕ → Sort C
+      e = entry Γ (set xs 0 x)
+
+      here : e 0 ≡ x
+      here = get_or-set_same xs 0 x (blank Γ) (omega arith)
+
+      start : Kept Γ e 0 1 (length xs) × Closed Γ e 0 1
+      start =
+          let p = ap (λ (z : Sort C). z.first) here ∙ first in
+          let q = subst (λ (z : Sort C). Γ.sorts.has nil z.standings) (sym here) s in
+          let r = ap (λ (z : Sort C). z.cost) here ∙ c in
+          let t = ap (λ (z : Sort C). z.length) here ∙ l in
+          (start_kept e (length xs) (omega arith) p q r t, start_closed e (length xs) (omega arith) p q r t)
+
+-- no room for the sort of nil
+pub none_fits : {C : Type 0} {Γ : Setting C} (sorted : Sorts Γ.sorts) (xs ys : List (Sort C)) (len : ℕ) (x : Sort C) (f : Fault) → len ≡ 0 → Γ.sorts.has nil x.standings
+    → length ys ≡ length xs → Full (blank Γ) xs len x f → Refused Γ (length ys) f
+none_fits sorted xs ys len x f none s same h =
+    let full = h.full in
+    record {
+      tells = h.tells;
+      many = record {
+        forest = λ _. nil;
+        sort = λ _. x.standings;
+        counted = λ i hi. sorted.nil_counts;
+        sorted = λ i hi. s;
+        differ = λ i j hi hj _. omega arith;
+      };
+    }

@@ -1,13 +1,13 @@
 -- An offer, as a step of the survey.
-use Rattle.std.proofs.Common.{◌≡◌, ℕ, ◌+◌, ◌<◌, ◌≤◌, ◌⊎◌, List, length, get_or, Some, None, Ok, Err, Result, sym, refl, ◌∙◌, subst, inl, inr, arith}
+use Rattle.std.proofs.Common.{◌≡◌, ℕ, ◌+◌, ◌<◌, ◌≤◌, ◌⊎◌, List, length, get_or, Some, Ok, Err, Result, sym, refl, ◌∙◌, subst, inl, inr, arith}
 use Rattle.std.proofs.lemmas.List.{get_or_default}
 use Rattle.survey.specs.declared.types.Standings.{Standings}
 use Rattle.survey.specs.declared.types.Sort.{Sort}
 use Rattle.forest.specs.declared.fault.Fault.{Fault}
 use Rattle.survey.specs.declared.types.First.TheVariants.{Text, Node}
 use Rattle.survey.specs.declared.types.Tree.{Tree}
-use Rattle.survey.specs.Stocks.{Rooted, Joins}
-use Rattle.survey.proofs.Basics.{below_or_not, covered_at, covers_by, grown_none}
+use Rattle.survey.specs.KeptTrees.{OverEntry, Joins}
+use Rattle.survey.proofs.Basics.{good_at, below_or_not, covered_at, covers_by}
 use Rattle.survey.proofs.Puts.{taken}
 use Rattle.survey.proofs.Finishes.{too_many}
 use Rattle.survey.specs.Survey.{Setting, blank, entry}
@@ -33,65 +33,73 @@ module _ {C : Type 0} {Γ : Setting C} where
   formed_sized e lim x (as_node n a label lt lt' s c l) = omega (arith, l)
 
   -- no length is above the ceiling
-  pub sized : (e : ℕ → Sort C) (done len cap : ℕ) → Kept Γ e done len cap → (k : ℕ) → k < len → (e k).length ≤ ceiling
+  sized : (e : ℕ → Sort C) (done len cap : ℕ) → Kept Γ e done len cap → (k : ℕ) → k < len → (e k).length ≤ ceiling
   sized e done len cap kept k h = elim (below_or_not k done) [ inl lt ↦ formed_sized e k (e k) (kept.settled k lt) | inr ge ↦ formed_sized e done (e k) (kept.tentative k ge h) ]
+
+-- a sort that was read at a place where one stands
+pub record ReadAt {C : Type 0} (Γ : Setting C) (xs : List (Sort C)) (k : ℕ) (x : Sort C) : Type 0 where
+  pub is : x ≡ entry Γ xs k
+  pub fine : Γ.good x.cost
+  pub short : x.length ≤ ceiling
+
+pub read_at : {C : Type 0} {Γ : Setting C} (xs : List (Sort C)) (done len k : ℕ) (x : Sort C) → Kept Γ (entry Γ xs) done len (length xs) → k < len → x ≡ get_or xs k x → ReadAt Γ xs k x
+read_at {C} {Γ} xs done len k x kept lt eq =
+    let fits : len ≤ length xs = kept.fits in
+    let is = read Γ xs k x (omega arith) eq in
+    record {
+      is = is;
+      fine = good_at Γ (entry Γ xs k) x is (kept.fine k lt);
+      short = subst (λ (z : Sort C). z.length ≤ ceiling) (sym is) (sized (entry Γ xs) done len (length xs) kept k lt);
+    }
 
 module _ {C : Type 0} {Γ : Setting C} (so : Sound Γ) (xs : List (Sort C)) (last len : ℕ) (kept : Kept Γ (entry Γ xs) (last + 1) len (length xs)) where
   relaxed : (x : Sort C) → Formed Γ (entry Γ xs) (last + 1) x → Γ.good x.cost → Γ.le (entry Γ xs last).cost x.cost
-      → (ys : List (Sort C)) (r : Result ℕ Fault) → Offer Γ.le (blank Γ) xs len x ys r → Relaxed Γ xs (last + 1) len x.standings x.cost ys r
-  relaxed x formed fine above ys (Ok n) o =
+      → {A : Type 0} (ys : List (Sort C)) (n : ℕ) (r : Result A Fault) → Offer Γ.le (blank Γ) xs len x ys n r → Relaxed Γ xs last len x.standings x.cost ys n r
+  relaxed x formed fine above ys n (Ok _) o =
       taken so xs (last + 1) len x kept formed fine
       (λ i h. so.order.trans _ _ _ (kept.fine i (omega (arith, kept.within))) (kept.fine last (omega (arith, kept.within))) fine (kept.ascending i last h (omega arith) (omega (arith, kept.within))) above)
       ys n o
-  relaxed x formed fine above ys (Err f) o =
-      record { number = o.number; place = o.place; many = too_many so (entry Γ xs) (last + 1) len (length xs) kept x formed o.absent o.full }
+  relaxed x formed fine above ys n (Err f) o =
+      record { tells = o.tells; many = too_many so (entry Γ xs) (last + 1) len (length xs) kept x formed o.absent o.full }
 
-  relaxed_at : (σ τ : Standings) (b c : C) → σ ≡ τ → b ≡ c → (ys : List (Sort C)) (r : Result ℕ Fault) → Relaxed Γ xs (last + 1) len σ b ys r → Relaxed Γ xs (last + 1) len τ c ys r
-  relaxed_at σ τ b c p q ys (Ok n) z = (z.0, covered_at Γ (entry Γ ys) n σ τ b c p q z.1)
-  relaxed_at σ τ b c p q ys (Err f) z = z
+  relaxed_at : (σ τ : Standings) (b c : C) → σ ≡ τ → b ≡ c → {A : Type 0} (ys : List (Sort C)) (n : ℕ) (r : Result A Fault) → Relaxed Γ xs last len σ b ys n r → Relaxed Γ xs last len τ c ys n r
+  relaxed_at σ τ b c p q ys n (Ok _) z = (z.0, covered_at Γ (entry Γ ys) n σ τ b c p q z.1)
+  relaxed_at σ τ b c p q ys n (Err f) z = z
 
   fits_last : last < len
   fits_last = omega (arith, kept.within)
 
   texted : (x : Sort C) → TextSort Γ.sorts (entry Γ xs last).standings (Some x.standings)
-      → (ys : List (Sort C)) (r : Result ℕ Fault) → Relaxed Γ xs (last + 1) len x.standings (text_cost Γ (entry Γ xs last)) ys r → Texted Γ xs last len ys r
-  texted x s ys (Ok n) z = (z.0, go)
+      → {A : Type 0} (ys : List (Sort C)) (n : ℕ) (r : Result A Fault) → Relaxed Γ xs last len x.standings (text_cost Γ (entry Γ xs last)) ys n r → Texted Γ xs last len ys n r
+  texted x s ys n (Ok _) z = (z.0, go)
     where
       go : TextCovered Γ (entry Γ xs last) (entry Γ ys) n
       go nil p = absurd p
       go (text t f) p = covers_by Γ (entry Γ ys) n x.standings _ (text t f) z.1 ((s f (so.sorted.text_rest t f p.0) p.1).1 t p.0)
       go (node l c f) p = absurd p
-  texted x s ys (Err f) z = z
-
-  pub texted_none : TextSort Γ.sorts (entry Γ xs last).standings None → Texted Γ xs last len xs (Ok len)
-  texted_none s = (grown_none (entry Γ xs) (last + 1) len (length xs) kept, go)
-    where
-      go : TextCovered Γ (entry Γ xs last) (entry Γ xs) len
-      go nil p = absurd p
-      go (text t f) p = absurd (s t f p.1 p.0)
-      go (node l c f) p = absurd p
+  texted x s ys n (Err f) z = z
 
   pub relaxed_text : (x : Sort C) → x.first ≡ Text → x.rest ≡ last
       → TextSort Γ.sorts (entry Γ xs last).standings (Some x.standings) → x.cost ≡ text_cost Γ (entry Γ xs last) → x.length ≡ text_length (entry Γ xs last).length
-      → (ys : List (Sort C)) (r : Result ℕ Fault) → Offer Γ.le (blank Γ) xs len x ys r
-      → Texted Γ xs last len ys r
-  relaxed_text x first at s c l ys r o =
+      → {A : Type 0} (ys : List (Sort C)) (n : ℕ) (r : Result A Fault) → Offer Γ.le (blank Γ) xs len x ys n r
+      → Texted Γ xs last len ys n r
+  relaxed_text x first at s c l ys n r o =
       let g = kept.fine last fits_last in
       let P : ℕ → Type 0 = λ k. TextSort Γ.sorts (entry Γ xs k).standings (Some x.standings) in
       let Q : ℕ → Type 0 = λ k. x.cost ≡ text_cost Γ (entry Γ xs k) in
       let R : ℕ → Type 0 = λ k. x.length ≡ text_length (entry Γ xs k).length in
-      texted x s ys r
-      (relaxed_at _ _ _ _ refl c ys r
+      texted x s ys n r
+      (relaxed_at _ _ _ _ refl c ys n r
       (relaxed x (as_text first (omega (arith, at)) (subst P (sym at) s) (subst Q (sym at) c) (subst R (sym at) l))
       (subst Γ.good (sym c) (so.laws.good_text 0 _ g))
-      (subst (Γ.le (entry Γ xs last).cost) (sym c) (so.laws.text_rest 0 _ g)) ys r o))
+      (subst (Γ.le (entry Γ xs last).cost) (sym c) (so.laws.text_rest 0 _ g)) ys n r o))
 
   relaxed_node : (label content rest : ℕ) (x : Sort C) → Label label → content ≤ last → rest ≤ last → (content ≡ last) ⊎ (rest ≡ last)
       → x.first ≡ Node label → x.content ≡ content → x.rest ≡ rest
       → NodeOf Γ label (entry Γ xs content).standings (entry Γ xs rest).standings x.standings → x.cost ≡ node_cost Γ (entry Γ xs content) (entry Γ xs rest) → x.length ≡ node_length (entry Γ xs content).length (entry Γ xs rest).length
-      → (ys : List (Sort C)) (r : Result ℕ Fault) → Offer Γ.le (blank Γ) xs len x ys r
-      → Relaxed Γ xs (last + 1) len x.standings (node_cost Γ (entry Γ xs content) (entry Γ xs rest)) ys r
-  relaxed_node label content rest x pos hc hr new first inner after s c l ys r o =
+      → {A : Type 0} (ys : List (Sort C)) (n : ℕ) (r : Result A Fault) → Offer Γ.le (blank Γ) xs len x ys n r
+      → Relaxed Γ xs last len x.standings (node_cost Γ (entry Γ xs content) (entry Γ xs rest)) ys n r
+  relaxed_node label content rest x pos hc hr new first inner after s c l ys n r o =
       let lt : last < len = fits_last in
       let gc = kept.fine content (omega arith) in
       let gr = kept.fine rest (omega arith) in
@@ -103,31 +111,31 @@ module _ {C : Type 0} {Γ : Setting C} (so : Sound Γ) (xs : List (Sort C)) (las
         | inl e ↦ subst (λ (k : ℕ). Γ.le (entry Γ xs k).cost (node_cost Γ (entry Γ xs content) (entry Γ xs rest))) e (so.laws.node_content _ _ gc gr)
         | inr e ↦ subst (λ (k : ℕ). Γ.le (entry Γ xs k).cost (node_cost Γ (entry Γ xs content) (entry Γ xs rest))) e (so.laws.node_rest _ _ gc gr)
       ] in
-      relaxed_at _ _ _ _ refl c ys r
+      relaxed_at _ _ _ _ refl c ys n r
       (relaxed x
       (as_node label first pos (omega (arith, inner)) (omega (arith, after))
       (subst (λ (i : ℕ). P i x.rest) (sym inner) (subst (P content) (sym after) s))
       (subst (λ (i : ℕ). Q i x.rest) (sym inner) (subst (Q content) (sym after) c))
       (subst (λ (i : ℕ). R i x.rest) (sym inner) (subst (R content) (sym after) l)))
       (subst Γ.good (sym c) (so.laws.good_node _ _ gc gr))
-      (subst (Γ.le (entry Γ xs last).cost) (sym c) above) ys r o)
+      (subst (Γ.le (entry Γ xs last).cost) (sym c) above) ys n r o)
 
   joins : (t : Tree) (rest : ℕ) (σ : Standings) → NodeSort Γ.sorts t.leaves (entry Γ xs rest).standings σ
-      → (ys : List (Sort C)) (r : Result ℕ Fault) → Relaxed Γ xs (last + 1) len σ (node_cost Γ (entry Γ xs t.content) (entry Γ xs rest)) ys r → Joins Γ xs last len t rest ys r
-  joins t rest σ s ys (Ok n) z = (z.0, go)
+      → {A : Type 0} (ys : List (Sort C)) (n : ℕ) (r : Result A Fault) → Relaxed Γ xs last len σ (node_cost Γ (entry Γ xs t.content) (entry Γ xs rest)) ys n r → Joins Γ xs last len t rest ys n r
+  joins t rest σ s ys n (Ok _) z = (z.0, go)
     where
       go : TreeCovered Γ t.leaves (entry Γ xs t.content) (entry Γ xs rest) (entry Γ ys) n
       go nil p = absurd p
       go (text b f) p = absurd p
       go (node l c f) p = covers_by Γ (entry Γ ys) n σ _ (node l c f) z.1 (s l c f p.0 p.1 p.2)
-  joins t rest σ s ys (Err f) z = z
+  joins t rest σ s ys n (Err f) z = z
 
-  pub joins_node : (t : Tree) (rest : ℕ) (x : Sort C) → Rooted Γ (entry Γ xs) (last + 1) t → rest ≤ last → (t.content ≡ last) ⊎ (rest ≡ last)
+  pub joins_node : (t : Tree) (rest : ℕ) (x : Sort C) → OverEntry Γ (entry Γ xs) (last + 1) t → rest ≤ last → (t.content ≡ last) ⊎ (rest ≡ last)
       → x.first ≡ Node t.label → x.content ≡ t.content → x.rest ≡ rest
       → NodeSort Γ.sorts t.leaves (entry Γ xs rest).standings x.standings → x.cost ≡ node_cost Γ (entry Γ xs t.content) (entry Γ xs rest) → x.length ≡ node_length (entry Γ xs t.content).length (entry Γ xs rest).length
-      → (ys : List (Sort C)) (r : Result ℕ Fault) → Offer Γ.le (blank Γ) xs len x ys r
-      → Joins Γ xs last len t rest ys r
-  joins_node t rest x rooted hr new first inner after s c l ys r o =
-      joins t rest x.standings s ys r
-      (relaxed_node t.label t.content rest x rooted.label (omega (arith, rooted.content)) hr new first inner after
-      (λ k f ck cf hk hf. s t.label k f (so.sorted.node_counts t.label k f rooted.label ck cf) (rooted.leaves k ck hk) hf) c l ys r o)
+      → {A : Type 0} (ys : List (Sort C)) (n : ℕ) (r : Result A Fault) → Offer Γ.le (blank Γ) xs len x ys n r
+      → Joins Γ xs last len t rest ys n r
+  joins_node t rest x over hr new first inner after s c l ys n r o =
+      joins t rest x.standings s ys n r
+      (relaxed_node t.label t.content rest x over.label (omega (arith, over.content)) hr new first inner after
+      (λ k f ck cf hk hf. s t.label k f (so.sorted.node_counts t.label k f over.label ck cf) (over.leaves k ck hk) hf) c l ys n r o)

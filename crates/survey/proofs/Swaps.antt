@@ -1,15 +1,15 @@
 -- The cheapest tentative entry is settled.
-use Rattle.std.proofs.Common.{◌≡◌, ℕ, ◌+◌, ◌<◌, ◌≤◌, ◌≢◌, ◌⊎◌, sym, refl, ap, ◌∙◌, subst, inl, inr, arith}
+use Rattle.std.proofs.Common.{◌≡◌, ℕ, ◌+◌, ◌<◌, ◌≤◌, ◌≢◌, ◌⊎◌, List, sym, refl, ap, ◌∙◌, subst, inl, inr, arith, slice_index}
 use Rattle.survey.specs.declared.types.Standings.{Standings}
 use Rattle.survey.specs.declared.types.Sort.{Sort}
 use Rattle.survey.specs.declared.types.Tree.{Tree}
-use Rattle.survey.specs.Stocks.{Stocked}
-use Rattle.survey.proofs.Stocking.{joined_move, met_move, rooted_move}
+use Rattle.survey.specs.KeptTrees.{tree_at, TreeTable}
+use Rattle.survey.proofs.KeptTrees.{joined_move, met_move, over_move}
 use Rattle.survey.proofs.Loops.{covered_node, covered_text}
 use Rattle.survey.proofs.Basics.{same_or_not, below_or_at, formed_at, good_at, le_at, standings_at}
 use Rattle.forest.specs.Forest.{Forest, nil}
-use Rattle.survey.specs.Survey.{Covers, Setting}
-use Rattle.survey.specs.Steps.{Closed, Covered, Covering, Formed, Kept, Sound}
+use Rattle.survey.specs.Survey.{Covers, Setting, blank, entry}
+use Rattle.survey.specs.Steps.{Closed, Covered, Covering, Formed, Kept, Settled, Sound}
 
 -- e' at p is e at q, where a and b change places
 abbrev Moved : ℕ → ℕ → ℕ → ℕ → Type 0
@@ -25,7 +25,7 @@ moved_above : (a b n p q : ℕ) → n ≤ a → n ≤ b → Moved a b p q → n 
 moved_above a b n p q ha hb m h = grind arith
 
 module _ {C : Type 0} (e e' : ℕ → Sort C) (a b : ℕ) (to : e' a ≡ e b) (back : e' b ≡ e a) (there : (j : ℕ) → j ≢ a → j ≢ b → e' j ≡ e j) where
-  pub comes : (p : ℕ) → (q : ℕ) × Moved a b p q × (e' p ≡ e q)
+  comes : (p : ℕ) → (q : ℕ) × Moved a b p q × (e' p ≡ e q)
   comes p = go (same_or_not p a) (same_or_not p b)
     where
       go : (p ≡ a) ⊎ (p ≢ a) → (p ≡ b) ⊎ (p ≢ b) → (q : ℕ) × Moved a b p q × (e' p ≡ e q)
@@ -57,7 +57,7 @@ module _ {C : Type 0} {Γ : Setting C} (so : Sound Γ) (e e' : ℕ → Sort C) (
       go (inl lt) z = le_at Γ (e i) (e z.0) (e' i) (e' j) (still i lt) z.2 (kept.ascending i z.0 lt (moved_above done b i j z.0 (omega arith) (omega arith) z.1 le) (moved_below done b len j z.0 (omega arith) high z.1 hj))
       go (inr eq) z = le_at Γ (e b) (e z.0) (e' i) (e' j) (ap e' eq ∙ to) z.2 (least z.0 (moved_above done b done j z.0 (omega arith) low z.1 (omega arith)) (moved_below done b len j z.0 (omega arith) high z.1 hj))
 
-  pub swap_kept : Kept Γ e' (done + 1) len cap
+  swap_kept : Kept Γ e' (done + 1) len cap
   swap_kept =
       record {
         sound = kept.sound;
@@ -80,7 +80,7 @@ module _ {C : Type 0} {Γ : Setting C} (so : Sound Γ) (e e' : ℕ → Sort C) (
         ascending = swap_ascending;
       }
 
-  pub swap_covers : (σ : Standings) (c : C) → Covered Γ e len σ c → Covered Γ e' len σ c
+  swap_covers : (σ : Standings) (c : C) → Covered Γ e len σ c → Covered Γ e' len σ c
   swap_covers σ c z =
       let y = comes e' e done b (sym back) (sym to) (λ j p q. sym (there j p q)) z.0 in
       (y.0, moved_below done b len z.0 y.0 (omega arith) high y.1 z.1, sym (standings_at y.2) ∙ z.2, subst (λ (u : Sort C). Γ.le u.cost c) y.2 z.3)
@@ -91,23 +91,32 @@ module _ {C : Type 0} {Γ : Setting C} (so : Sound Γ) (e e' : ℕ → Sort C) (
       let w = swap_covers (e y.0).standings c (y.0, y.1, refl, y.3) in
       (w.0, w.1, subst (Γ.sorts.has f) (sym w.2) y.2, w.3)
 
-  pub swap_closed : Closed Γ e done len → Closed Γ e' done len
+  swap_closed : Closed Γ e done len → Closed Γ e' done len
   swap_closed h =
       record {
         bare = swap_covering (λ f. f ≡ nil) _ (λ f p. subst (λ (f : Forest). Covers Γ e len f Γ.costs.of_nil) (sym p) h.bare) nil refl;
         texts = λ r lt. covered_text Γ e' len (e r) (e' r) (sym (still r lt)) (swap_covering _ _ (h.texts r lt));
-        nodes = λ i c r li lc lr. covered_node Γ e' len (Γ.sorts.label i) (e c) (e' c) (e r) (e' r) (sym (still c lc)) (sym (still r lr)) (swap_covering _ _ (h.nodes i c r li lc lr));
+        nodes = λ i c r li lc lr. covered_node Γ e' len (slice_index Γ.sorts.labels i) (e c) (e' c) (e r) (e' r) (sym (still c lc)) (sym (still r lr)) (swap_covering _ _ (h.nodes i c r li lc lr));
       }
 
-  pub swap_stocked : (ts : ℕ → Tree) (n whole room : ℕ) → Stocked Γ e ts n whole done len room → Stocked Γ e' ts n whole done len room
-  swap_stocked ts n whole room h =
+  swap_table : (ts : List Tree) (whole : ℕ) → TreeTable Γ e ts whole done len → TreeTable Γ e' ts whole done len
+  swap_table ts whole h =
       record {
-        fits = h.fits;
         within = h.within;
         trees = record {
-          rooted = λ t lt. rooted_move e e' done done (ts t) (omega arith) still (h.trees.rooted t lt);
-          joined = λ t r lt lr. joined_move Γ e e' e' len (ts t) r (sym (still (ts t).content (h.trees.rooted t lt).content)) (sym (still r lr)) (swap_covering _ _ (h.trees.joined t r lt lr));
+          over = λ t lt. over_move e e' done done (tree_at ts t) (omega arith) still (h.trees.over t lt);
+          joined = λ t r lt lr. joined_move Γ e e' e' len (tree_at ts t) r (sym (still (tree_at ts t).content (h.trees.over t lt).content)) (sym (still r lr)) (swap_covering _ _ (h.trees.joined t r lt lr));
         };
         met = λ i c hi hc.
-            met_move Γ e e' ts n i c (sym (still c (omega (arith, h.within)))) (h.met i c hi hc);
+            met_move Γ e e' ts i c (sym (still c (omega (arith, h.within)))) (h.met i c hi hc);
       }
+
+module _ {C : Type 0} {Γ : Setting C} (xs ys : List (Sort C)) (done len cap : ℕ) (t : Settled Γ.le (blank Γ) xs done len ys) (kept : Kept Γ (entry Γ xs) done len cap) where
+  pub settled_kept : Kept Γ (entry Γ ys) (done + 1) len cap
+  settled_kept = swap_kept kept.sound (entry Γ xs) (entry Γ ys) done len cap t.place kept t.low t.high t.least t.to t.back t.there
+
+  pub settled_closed : Closed Γ (entry Γ xs) done len → Closed Γ (entry Γ ys) done len
+  settled_closed = swap_closed kept.sound (entry Γ xs) (entry Γ ys) done len cap t.place kept t.low t.high t.least t.to t.back t.there
+
+  pub settled_table : (ts : List Tree) (whole : ℕ) → TreeTable Γ (entry Γ xs) ts whole done len → TreeTable Γ (entry Γ ys) ts whole done len
+  settled_table = swap_table kept.sound (entry Γ xs) (entry Γ ys) done len cap t.place kept t.low t.high t.least t.to t.back t.there

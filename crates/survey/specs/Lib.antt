@@ -1,4 +1,4 @@
 pub mod Sorting
 pub mod Survey
 pub mod Steps
-pub mod Stocks
+pub mod KeptTrees

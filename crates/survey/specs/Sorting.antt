@@ -1,5 +1,5 @@
 -- How forests fall into sorts.
-use Rattle.std.specs.Prelude.{◌≡◌, ℕ, ◌<◌, List, [], Some, None, Option}
+use Rattle.std.specs.Prelude.{◌≡◌, ℕ, ◌<◌, List, [], length, Some, None, Option, slice_index}
 use Rattle.forest.specs.Forest.{Forest, nil, text, node, Label}
 use Rattle.survey.specs.declared.types.Standings.{Standings}
 use Rattle.survey.specs.declared.types.Leaves.{Leaves}
@@ -11,9 +11,8 @@ pub record Model : Type 1 where
   pub has : Forest → Standings → Type 0
   -- A node with this label and content has these leaves: the leaves that admit it.
   pub has_leaves : ℕ → Forest → Leaves → Type 0
-  -- The labels to try: `label i` for each i below `count`.
-  pub count : ℕ
-  pub label : ℕ → ℕ
+  -- The labels to try.
+  pub labels : List ℕ
 
 -- Under the second label a node has the leaves that it has under the first.
 abbrev pub Like : Model → ℕ → ℕ → Type 0
@@ -39,5 +38,5 @@ pub record Sorts (s : Model) : Type 0 where
   pub node_parts : (l : ℕ) (content rest : Forest) → s.counts (node l content rest) → Label l × s.counts content × s.counts rest
   pub node_counts : (l : ℕ) (content rest : Forest) → Label l → s.counts content → s.counts rest → s.counts (node l content rest)
   pub one_sort : (f : Forest) (σ τ : Standings) → s.counts f → s.has f σ → s.has f τ → σ ≡ τ
-  pub labels : (i : ℕ) → i < s.count → Label (s.label i)
-  pub alike : (l : ℕ) → Label l → (i : ℕ) × (i < s.count) × Like s (s.label i) l
+  pub labels : (i : ℕ) → i < length s.labels → Label (slice_index s.labels i)
+  pub alike : (l : ℕ) → Label l → (i : ℕ) × (i < length s.labels) × Like s (slice_index s.labels i) l

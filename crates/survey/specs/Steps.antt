@@ -1,5 +1,6 @@
 -- What holds while a survey is made, and what each of its steps leaves. Whoever calls the survey needs none of it.
-use Rattle.std.specs.Prelude.{◌≡◌, ℕ, ◌+◌, ◌<◌, ◌≤◌, ◌≢◌, List, length, get_or, Some, None, Ok, Err, Option, Result, slice_index_or, slice_set}
+use Rattle.forest.specs.Refusals.{told}
+use Rattle.std.specs.Prelude.{◌≡◌, ℕ, ◌+◌, ◌<◌, ◌≤◌, ◌≢◌, List, length, get_or, Some, None, Ok, Err, Option, Result, slice_index_or, slice_set, slice_index}
 use Rattle.forest.specs.declared.fault.Fault.{Fault}
 use Rattle.forest.specs.Forest.{Forest, nil, text, node, Label}
 use Rattle.measure.specs.Measure.{Ordered, Lawful}
@@ -98,7 +99,7 @@ NodeCovered Γ l x y e n = Covering Γ (NodeOver Γ l x.standings y.standings) (
 pub record Closed {C : Type 0} (Γ : Setting C) (e : ℕ → Sort C) (done len : ℕ) : Type 0 where
   pub bare : Covers Γ e len nil Γ.costs.of_nil
   pub texts : (r : ℕ) → r < done → TextCovered Γ (e r) e len
-  pub nodes : (i c r : ℕ) → i < Γ.sorts.count → c < done → r < done → NodeCovered Γ (Γ.sorts.label i) (e c) (e r) e len
+  pub nodes : (i c r : ℕ) → i < length Γ.sorts.labels → c < done → r < done → NodeCovered Γ (slice_index Γ.sorts.labels i) (e c) (e r) e len
 
 -- no entry of the first `len` has the sort
 abbrev pub Absent : {C : Type 0} → (ℕ → Sort C) → ℕ → Standings → Type 0
@@ -108,11 +109,6 @@ Absent e len σ = (k : ℕ) → k < len → (e k).standings ≢ σ
 abbrev pub Found : {C : Type 0} → List (Sort C) → ℕ → Standings → Option ℕ → Type 0
 Found {C} xs len σ (Some k) = (k < len) × ((d : Sort C) → (get_or xs k d).standings ≡ σ)
 Found {C} xs len σ None = (d : Sort C) → Absent (λ k. get_or xs k d) len σ
-
--- a place, if any, is that of the sort
-abbrev pub Seen : {C : Type 0} → List (Sort C) → ℕ → Standings → Option ℕ → Type 0
-Seen {C} xs len σ (Some k) = (k < len) × ((d : Sort C) → (get_or xs k d).standings ≡ σ)
-Seen {C} xs len σ None = Unit {0}
 
 -- the entry at r costs at most as much as each from a on and before b
 abbrev pub LeastIn : {C : Type 0} → (C → C → Type 0) → List (Sort C) → ℕ → ℕ → ℕ → Type 0
@@ -129,14 +125,13 @@ pub data Offered {C : Type 0} (le : C → C → Type 0) (d : Sort C) (xs : List 
   another : Absent (λ k. get_or xs k d) len x.standings → len < length xs → ys ≡ slice_set xs len x → n ≡ len + 1 → Offered le d xs len x ys n
 
 pub record Full {C : Type 0} (d : Sort C) (xs : List (Sort C)) (len : ℕ) (x : Sort C) (f : Fault) : Type 0 where
-  pub number : f.number ≡ 21
-  pub place : f.place ≡ 0
+  pub tells : told f ≡ (21, 0)
   pub full : length xs ≤ len
   pub absent : Absent (λ k. get_or xs k d) len x.standings
 
-abbrev pub Offer : {C : Type 0} → (C → C → Type 0) → Sort C → List (Sort C) → ℕ → Sort C → List (Sort C) → Result ℕ Fault → Type 0
-Offer le d xs len x ys (Ok n) = Offered le d xs len x ys n
-Offer le d xs len x ys (Err f) = Full d xs len x f
+abbrev pub Offer : {C A : Type 0} → (C → C → Type 0) → Sort C → List (Sort C) → ℕ → Sort C → List (Sort C) → ℕ → Result A Fault → Type 0
+Offer le d xs len x ys n (Ok _) = Offered le d xs len x ys n
+Offer le d xs len x ys n (Err f) = Full d xs len x f
 
 -- the cheapest from `done` on has changed places with the entry at `done`
 pub record Settled {C : Type 0} (le : C → C → Type 0) (d : Sort C) (xs : List (Sort C)) (done len : ℕ) (ys : List (Sort C)) : Type 0 where
@@ -154,17 +149,20 @@ pub record Grown {C : Type 0} (Γ : Setting C) (e e' : ℕ → Sort C) (done len
   pub same : (k : ℕ) → k < done → e' k ≡ e k
   pub covers : (σ : Standings) (c : C) → Γ.good c → Covered Γ e len σ c → Covered Γ e' n σ c
 
+-- a step of the list to ys with n entries, or refusal 21
+abbrev pub Grows : {C A : Type 0} → Setting C → List (Sort C) → ℕ → ℕ → List (Sort C) → ℕ → ((ℕ → Sort C) → (ℕ → Sort C) → Type 0) → Result A Fault → Type 0
+Grows Γ xs last len ys n P (Ok _) = Grown Γ (entry Γ xs) (entry Γ ys) (last + 1) len n (length xs) × P (entry Γ xs) (entry Γ ys)
+Grows Γ xs last len ys n P (Err f) = Refused Γ (length xs) f
+
 -- a step that covers a sort at a cost
-abbrev pub Relaxed : {C : Type 0} → Setting C → List (Sort C) → ℕ → ℕ → Standings → C → List (Sort C) → Result ℕ Fault → Type 0
-Relaxed Γ xs done len σ c ys (Ok n) = Grown Γ (entry Γ xs) (entry Γ ys) done len n (length xs) × Covered Γ (entry Γ ys) n σ c
-Relaxed Γ xs done len σ c ys (Err f) = Refused Γ (length xs) f
+abbrev pub Relaxed : {C A : Type 0} → Setting C → List (Sort C) → ℕ → ℕ → Standings → C → List (Sort C) → ℕ → Result A Fault → Type 0
+Relaxed Γ xs last len σ c ys n = Grows Γ xs last len ys n (λ e e'. Covered Γ e' n σ c)
 
 -- an empty text before the last entry
-abbrev pub Texted : {C : Type 0} → Setting C → List (Sort C) → ℕ → ℕ → List (Sort C) → Result ℕ Fault → Type 0
-Texted Γ xs last len ys (Ok n) = Grown Γ (entry Γ xs) (entry Γ ys) (last + 1) len n (length xs) × TextCovered Γ (entry Γ xs last) (entry Γ ys) n
-Texted Γ xs last len ys (Err f) = Refused Γ (length xs) f
+abbrev pub Texted : {C A : Type 0} → Setting C → List (Sort C) → ℕ → ℕ → List (Sort C) → ℕ → Result A Fault → Type 0
+Texted Γ xs last len ys n = Grows Γ xs last len ys n (λ e e'. TextCovered Γ (e last) e' n)
 
 -- the nodes over `last` before a settled entry, and over one before `last`
 abbrev pub NodesAround : {C : Type 0} → Setting C → (ℕ → Sort C) → (ℕ → Sort C) → ℕ → ℕ → Type 0
-NodesAround Γ e e' last n = (i k : ℕ) → i < Γ.sorts.count → k < last + 1
-    → NodeCovered Γ (Γ.sorts.label i) (e last) (e k) e' n × NodeCovered Γ (Γ.sorts.label i) (e k) (e last) e' n
+NodesAround Γ e e' last n = (i k : ℕ) → i < length Γ.sorts.labels → k < last + 1
+    → NodeCovered Γ (slice_index Γ.sorts.labels i) (e last) (e k) e' n × NodeCovered Γ (slice_index Γ.sorts.labels i) (e k) (e last) e' n

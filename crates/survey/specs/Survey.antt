@@ -1,4 +1,5 @@
 -- What a survey of all sorts promises.
+use Rattle.forest.specs.Refusals.{told}
 use Rattle.std.specs.Prelude.{◌≡◌, ℕ, ◌<◌, ◌≤◌, List, [], length, Ok, Err, Result, slice_index_or}
 use Rattle.forest.specs.declared.fault.Fault.{Fault}
 use Rattle.forest.specs.Forest.{Forest, nil, text, node}
@@ -63,8 +64,7 @@ pub record TooMany (s : Model) (cap : ℕ) : Type 0 where
 
 -- Refusal 21: more sorts than elements.
 pub record Refused {C : Type 0} (Γ : Setting C) (cap : ℕ) (f : Fault) : Type 0 where
-  pub number : f.number ≡ 21
-  pub place : f.place ≡ 0
+  pub tells : told f ≡ (21, 0)
   pub many : TooMany Γ.sorts cap
 
 -- A survey answers how many sorts there are, and lists them; or it refuses.

@@ -1,5 +1,5 @@
 // How forests fall into sorts.
-ghost use Rattle.std.specs.Prelude.{◌≡◌, ◌<◌};
+ghost use Rattle.std.specs.Prelude.{◌≡◌};
 ghost use Rattle.forest.specs.Forest.{nil, Label};
 ghost use Rattle.survey.specs.Sorting.{Model, Sorts, TextSort, NodeLeaves, NodeSort};
 
@@ -26,14 +26,9 @@ pub trait Sorting {
     fn before(&self, leaves: Leaves, rest: Standings) -> Standings
         ensures { NodeSort (model self.now) leaves rest result };
 
-    /// How many labels there are to try.
-    fn count(&self) -> usize
-        ensures { result ≡ (model self.now).count };
-
-    /// The i-th label to try.
-    fn label(&self, i: usize) -> u16
-        requires { i < (model self.now).count }
-        ensures { result ≡ (model self.now).label i };
+    /// The labels to try.
+    fn labels(&self) -> &[u16]
+        ensures { result.now ≡ (model self.now).labels };
 
     ghost sorted: { (s : Self) → Sorts (model s) };
 }

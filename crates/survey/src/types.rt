@@ -8,6 +8,7 @@ pub struct Standings {
 }
 
 /// The leaves that admit a tree, as a set of places of each of two sheets.
+// A type beside Standings: a set of leaves is no standing, and may not pass for one.
 #[derive(Clone, Copy, PartialEq, Eq)]
 pub struct Leaves {
     pub old: u64,
@@ -40,20 +41,4 @@ pub struct Tree {
     pub leaves: Leaves,
     pub label: u16,
     pub content: usize,
-}
-
-// What a step leaves: how many sorts, how many trees, and whether a tree found no room.
-#[derive(Clone, Copy)]
-pub struct Round {
-    pub len: usize,
-    pub kept: usize,
-    pub full: bool,
-}
-
-// How many sorts, how many trees, and the contents whose trees are all met.
-#[derive(Clone, Copy)]
-pub struct Step {
-    pub len: usize,
-    pub kept: usize,
-    pub whole: usize,
 }

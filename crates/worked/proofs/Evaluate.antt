@@ -1,9 +1,9 @@
 -- A test of belonging that computes.
 use Rattle.std.proofs.Common.{◌≡◌, ℕ, zero, suc, ◌+◌, ◌<◌, Bool, true, false, ◌&&◌, ◌||◌, T, eqb, ◌⊎◌, ◌↔◌, List, length, take, sym, refl, ◌∙◌, subst, inl, inr, add-one, arith, eqb→eq}
-use mathlib.Core.Logic.Iff
-use mathlib.Core.Option.{Option, none, some}
-use native.Mathlib.Decide.{ℕ_discrete}
-use lib.Dec.{eqb_refl}
+use Rattle.std.proofs.Math.Logic.Iff
+use Rattle.std.proofs.Math.Option.{Option, none, some}
+use Rattle.std.proofs.Math.Decide.{ℕ_discrete}
+use Rattle.std.proofs.Math.Dec.{eqb_refl}
 use Rattle.forest.specs.Forest.{Forest, nil, text, node}
 use Rattle.rows.specs.declared.row.Row.{Row}
 use Rattle.rows.specs.declared.row.Row.TheVariants.{Empty as empty, Text as one_text, Named as named, Any as any, Seq as seq, Alt as alt, Many as many, Def as def}
@@ -74,14 +74,14 @@ through_iff s D f g (suc k) =
     other o i n ih = Iff.trans (off (through? s f k) ih) (through_stay s D k (λ x j. n x (sym i ∙ j)))
 
     go : (o : Option Row) → at s k ≡ o → T (through? s f k) ↔ Through s D k → T (through? s f k || here? (f k) o) ↔ Through s D (k + 1)
-    go none i ih = other none i (λ x j. let z : ◌≡◌ {A = ℕ} 0 1 = cc in omega arith) ih
-    go (some empty) i ih = other (some empty) i (λ x j. let z : ◌≡◌ {A = ℕ} 0 1 = cc in omega arith) ih
-    go (some one_text) i ih = other (some one_text) i (λ x j. let z : ◌≡◌ {A = ℕ} 0 1 = cc in omega arith) ih
-    go (some (named l d)) i ih = other (some (named l d)) i (λ x j. let z : ◌≡◌ {A = ℕ} 0 1 = cc in omega arith) ih
-    go (some (any d)) i ih = other (some (any d)) i (λ x j. let z : ◌≡◌ {A = ℕ} 0 1 = cc in omega arith) ih
-    go (some (seq a b)) i ih = other (some (seq a b)) i (λ x j. let z : ◌≡◌ {A = ℕ} 0 1 = cc in omega arith) ih
-    go (some (alt a b)) i ih = other (some (alt a b)) i (λ x j. let z : ◌≡◌ {A = ℕ} 0 1 = cc in omega arith) ih
-    go (some (many a)) i ih = other (some (many a)) i (λ x j. let z : ◌≡◌ {A = ℕ} 0 1 = cc in omega arith) ih
+    go none i ih = other none i (λ x j. cc) ih
+    go (some empty) i ih = other (some empty) i (λ x j. cc) ih
+    go (some one_text) i ih = other (some one_text) i (λ x j. cc) ih
+    go (some (named l d)) i ih = other (some (named l d)) i (λ x j. cc) ih
+    go (some (any d)) i ih = other (some (any d)) i (λ x j. cc) ih
+    go (some (seq a b)) i ih = other (some (seq a b)) i (λ x j. cc) ih
+    go (some (alt a b)) i ih = other (some (alt a b)) i (λ x j. cc) ih
+    go (some (many a)) i ih = other (some (many a)) i (λ x j. cc) ih
     go (some (def x)) i ih = Iff.trans (or_iff (through? s f k) (f k x) ih (g k x)) (through_more s D k x i)
 
 abbrev pub ends? : Sheet → ℕ → Bool

@@ -1,6 +1,6 @@
 -- Sheets, records and standings from tests that compute.
 use Rattle.std.proofs.Common.{◌≡◌, ℕ, suc, ◌+◌, ◌*◌, ◌/◌, ◌%◌, ◌<◌, ◌≤◌, Bool, true, false, ◌&&◌, ◌||◌, T, eqb, ltb, leb, ◌⊎◌, ◌↔◌, List, [], ◌∷◌, length, take, sym, refl, subst, inl, inr, arith, ltb→lt, leb→le}
-use mathlib.Core.Option.{some}
+use Rattle.std.proofs.Math.Option.{some}
 use Rattle.forest.specs.Forest.{Forest, nil, text, node, Label, Bytes, Proper, Record, bytes_of, depth}
 use Rattle.forest.specs.Reading.{StandsFor}
 use Rattle.rows.specs.declared.row.Row.{Row}

@@ -1,6 +1,6 @@
 -- The refusals, by tests that compute.
 use Rattle.std.proofs.Common.{◌≡◌, ℕ, zero, suc, ◌+◌, ◌-◌, ◌%◌, ◌<◌, Bool, true, false, ◌&&◌, ◌||◌, T, eqb, ltb, leb, List, [], ◌∷◌, ◌++◌, length, take, replicate, sym, refl, ap, ◌∙◌, subst, arith, le→leb, eqb→eq, ltb→lt, lt→ltb, leb→le}
-use lib.Dec.{eqb_refl}
+use Rattle.std.proofs.Math.Dec.{eqb_refl}
 use Rattle.forest.specs.Forest.{Forest, nil, text, node, Bytes, Proper, bytes_of}
 use Rattle.forest.specs.Reading as reading
 use Rattle.forest.specs.Reading.{Token, opening, chars, closing, all_written, LeavesOpen, Wrong, DueWithin}
@@ -100,7 +100,7 @@ just_read =
 
 -- Rows.
 either_false : (a b : Bool) → (a || b) ≡ false → (a ≡ false) × (b ≡ false)
-either_false true b q = let z : ◌≡◌ {A = ℕ} 0 1 = cc in absurd (let y : ⊥ = omega arith in y)
+either_false true b q = absurd (cc)
 either_false false b q = (refl, q)
 
 -- Whether four bytes say a row.

@@ -1,7 +1,7 @@
 -- A test of soundness that computes.
 use Rattle.std.proofs.Common.{◌≡◌, ℕ, zero, suc, ◌<◌, ◌≤◌, Bool, true, false, ◌&&◌, T, eqb, ltb, leb, [], ◌∷◌, length, sym, refl, subst, inl, inr, arith, eqb→eq, ltb→lt, leb→le}
-use mathlib.Core.Option.{Option, none, some}
-use native.Mathlib.Decide.{ℕ_discrete}
+use Rattle.std.proofs.Math.Option.{Option, none, some}
+use Rattle.std.proofs.Math.Decide.{ℕ_discrete}
 use Rattle.forest.specs.Forest.{Label}
 use Rattle.rows.specs.declared.row.Row.{Row}
 use Rattle.rows.specs.declared.row.Row.TheVariants.{Empty as empty, Text as one_text, Named as named, Any as any, Seq as seq, Alt as alt, Many as many, Def as def}
@@ -138,7 +138,7 @@ once s a none i h l = absurd (no_row s a i l)
   where
     no_row : (s : Sheet) (a : ℕ) → at s a ≡ none → a < length s → ⊥
     no_row [] a i l = omega arith
-    no_row (r ∷ s) zero i l = let z : ◌≡◌ {A = ℕ} 0 1 = cc in omega arith
+    no_row (r ∷ s) zero i l = cc
     no_row (r ∷ s) (suc a) i l = no_row s a i (omega arith)
 once s a (some empty) i h l = once_used s a (eqb→eq _ _ h)
 once s a (some one_text) i h l = once_used s a (eqb→eq _ _ h)

@@ -1,2 +1,4 @@
 mod Writes
 mod Rebuilds
+mod Fits
+pub mod Spellings

@@ -1,14 +1,15 @@
--- The table's forests are those of the survey.
-use Rattle.std.proofs.Common.{◌≡◌, ℕ, ◌+◌, ◌<◌, ◌≤◌, List, [], sym, ap, ◌∙◌, subst, arith}
+-- The table's forests are those that the list spells.
+use Rattle.std.proofs.Common.{◌≡◌, ℕ, ◌+◌, ◌<◌, ◌≤◌, List, [], sym, ap, ◌∙◌, subst, arith, length, take, get_or, length-take-le}
+use Rattle.std.proofs.lemmas.List.{get_or-take}
 use Rattle.forest.specs.Forest.{Forest, text, node}
+use Rattle.measure.specs.Lengths.{length_of}
 use Rattle.survey.specs.declared.types.Sort.{Sort}
 use Rattle.survey.specs.declared.types.First.{First}
-use Rattle.survey.specs.Survey.{Setting}
-use Rattle.survey.specs.Survey.{Rebuilt, built_nil, built_text, built_node, Stands, Surveyed}
+use Rattle.survey.specs.Survey.{Rebuilt, built_nil, built_text, built_node}
 use Rattle.writer.specs.declared.parts.Part.{Part}
 use Rattle.writer.specs.Tables.{part_at, made, forest, BelowBy, Lower}
 use Rattle.writer.proofs.Writes.{forest_is}
-use Rattle.writer.specs.Shows.{Copied}
+use Rattle.writer.specs.Shows.{Copied, part_of, Spells, Readable}
 
 module _ {C : Type 0} (e : ℕ → Sort C) (t : List Part) (n : ℕ) (copied : Copied e t n) where
   first_is : (k : ℕ) → k < n → (part_at t k).first ≡ (e k).first
@@ -46,20 +47,26 @@ module _ {C : Type 0} (e : ℕ → Sort C) (t : List Part) (n : ℕ) (copied : C
         ∙ ap (λ (c : Forest). node l c (forest t (e k).rest)) (rebuilt_is (e k).content g (omega arith) r)
         ∙ ap (node l g) (rebuilt_is (e k).rest g' (omega arith) r')
 
--- what the table of a survey holds at an index
-pub record Ready {C : Type 0} (Γ : Setting C) (x : Sort C) (t : List Part) (k : ℕ) : Type 0 where
+-- what the table holds, once the entries up to the one at k are copied to it
+pub record Ready {C : Type 0} (xs : List (Sort C)) (t : List Part) (k : ℕ) : Type 0 where
   pub low : Lower t k
   pub made_of : Forest
   pub is : forest t k ≡ made_of
-  pub stands : Stands Γ x made_of
+  pub spelled : Spells xs k made_of
+  pub told : (d : Sort C) → length_of made_of ≡ (get_or xs k d).length
 
-pub ready : {C : Type 0} (Γ : Setting C) (e : ℕ → Sort C) (n cap : ℕ) (t : List Part) (k : ℕ) → Surveyed Γ e n cap → Copied e t (k + 1) → k < n → Ready Γ (e k) t k
-ready Γ e n cap t k s copied h =
-    let z = s.attained k h in
-    let low : Lower t k = lower e t (k + 1) copied (λ j lt. let w = s.attained j (omega arith) in (w.0, w.1)) k (omega arith) in
+pub ready : {C : Type 0} (xs : List (Sort C)) (t : List Part) (k : ℕ) (d : Sort C) → k < length xs → Readable xs k
+    → Copied (λ j. get_or (take (k + 1) xs) j d) t (length (take (k + 1) xs)) → Ready xs t k
+ready {C} xs t k d h r c =
+    let e : ℕ → Sort C = λ j. get_or xs j d in
+    let all : length (take (k + 1) xs) ≡ k + 1 = length-take-le (k + 1) xs (omega arith) in
+    let copied : Copied e t (k + 1) = λ j lt. c j (omega arith) ∙ ap (λ (x : Sort C). part_of x) (get_or-take (k + 1) xs j d lt) in
+    let z = r k (omega arith) in
+    let low : Lower t k = lower e t (k + 1) copied (λ j lt. let w = r j (omega arith) in (w.0, w.1 d)) k (omega arith) in
     record {
       low = low;
       made_of = z.0;
-      is = rebuilt_is e t (k + 1) copied k (omega arith) low k z.0 (omega arith) z.1;
-      stands = z.2;
+      is = rebuilt_is e t (k + 1) copied k (omega arith) low k z.0 (omega arith) (z.1 d);
+      spelled = z.1;
+      told = z.2;
     }

@@ -1,10 +1,29 @@
--- One part of a forest written after another.
-use Rattle.std.proofs.Common.{◌≡◌, ℕ, zero, suc, ◌+◌, ◌<◌, ◌≤◌, List, [], ◌∷◌, ◌++◌, length, drop, set, sym, refl, ap, ◌∙◌, subst, arith, length-append, length-set}
-use Rattle.forest.specs.Forest.{Forest, text, node}
+-- What an entry of a table opens to, and one part of a forest written after another.
+use Rattle.std.proofs.Common.{◌≡◌, ℕ, zero, suc, ◌+◌, ◌-◌, ◌/◌, ◌%◌, ◌<◌, ◌≤◌, List, [], ◌∷◌, ◌++◌, length, take, drop, set, sym, refl, ap, ◌∙◌, subst, arith, length-append, length-drop, append_assoc, append-nil, get_or}
+use Rattle.std.proofs.lemmas.List.{take_at, drop_at, take_all, drop_all, drop-drop, set_at}
+use Rattle.std.proofs.Math.Seq.{drop-cons}
+use borrow.Rule.Slice.PartMut.{put_mid}
+use Rattle.forest.specs.Forest.{Forest, text, node, bytes_of}
 use Rattle.survey.specs.declared.types.First.{First}
 use Rattle.survey.specs.declared.types.First.TheVariants.{Nothing, Text, Node}
 use Rattle.writer.specs.declared.parts.Part.{Part}
-use Rattle.writer.specs.Tables.{part_at, made, forest_by, forest, BelowBy, Lower, overlay}
+use Rattle.writer.specs.Tables.{part_at, made, forest_by, forest, BelowBy, Lower}
+
+abbrev pub bytes_at : List Part → ℕ → List ℕ
+bytes_at t k = bytes_of (forest t k)
+
+-- an entry that begins with a text
+pub record TextAt (t : List Part) (k : ℕ) : Type 0 where
+  pub rest_below : (part_at t k).rest < k
+  pub bytes : bytes_at t k ≡ 3 ∷ 0 ∷ bytes_at t (part_at t k).rest
+  pub size : length (bytes_at t k) ≡ 2 + length (bytes_at t (part_at t k).rest)
+
+-- an entry that begins with a node of this label
+pub record NodeAt (t : List Part) (k l : ℕ) : Type 0 where
+  pub content_below : (part_at t k).content < k
+  pub rest_below : (part_at t k).rest < k
+  pub bytes : bytes_at t k ≡ 1 ∷ l / 256 ∷ l % 256 ∷ (bytes_at t (part_at t k).content ++ (2 ∷ bytes_at t (part_at t k).rest))
+  pub size : length (bytes_at t k) ≡ 4 + length (bytes_at t (part_at t k).content) + length (bytes_at t (part_at t k).rest)
 
 module _ (t : List Part) (top : ℕ) (low : Lower t top) where
   fuel_step : (n m k : ℕ) (f : First) → ((j : ℕ) → j < k → forest_by t n j ≡ forest_by t m j) → BelowBy f (part_at t k).content (part_at t k).rest k
@@ -31,55 +50,102 @@ module _ (t : List Part) (top : ℕ) (low : Lower t top) where
     pub forest_is : forest t k ≡ made (part_at t k).first (forest t (part_at t k).content) (forest t (part_at t k).rest)
     forest_is = open_made (part_at t k).first (low k w)
 
-    pub forest_text : (part_at t k).first ≡ Text → (forest t k ≡ text [] (forest t (part_at t k).rest)) × ((part_at t k).rest < k)
-    forest_text e = (forest_is ∙ ap (λ (f : First). made f (forest t (part_at t k).content) (forest t (part_at t k).rest)) e, subst (λ (f : First). BelowBy f (part_at t k).content (part_at t k).rest k) e (low k w))
+    pub text_at : (part_at t k).first ≡ Text → TextAt t k
+    text_at e =
+        let is = forest_is ∙ ap (λ (f : First). made f (forest t (part_at t k).content) (forest t (part_at t k).rest)) e in
+        record {
+          rest_below = subst (λ (f : First). BelowBy f (part_at t k).content (part_at t k).rest k) e (low k w);
+          bytes = ap bytes_of is;
+          size = ap (λ (f : Forest). length (bytes_of f)) is ∙ omega arith;
+        }
 
-    pub forest_node : (l : ℕ) → (part_at t k).first ≡ Node l → (forest t k ≡ node l (forest t (part_at t k).content) (forest t (part_at t k).rest)) × ((part_at t k).content < k) × ((part_at t k).rest < k)
-    forest_node l e =
-        let b = subst (λ (f : First). BelowBy f (part_at t k).content (part_at t k).rest k) e (low k w) in
-        (forest_is ∙ ap (λ (f : First). made f (forest t (part_at t k).content) (forest t (part_at t k).rest)) e, b.0, b.1)
+    pub node_at : (l : ℕ) → (part_at t k).first ≡ Node l → NodeAt t k l
+    node_at l e =
+        let is = forest_is ∙ ap (λ (f : First). made f (forest t (part_at t k).content) (forest t (part_at t k).rest)) e in
+        let below = subst (λ (f : First). BelowBy f (part_at t k).content (part_at t k).rest k) e (low k w) in
+        record {
+          content_below = below.0;
+          rest_below = below.1;
+          bytes = ap bytes_of is;
+          size = ap (λ (f : Forest). length (bytes_of f)) is ∙ omega (arith, length-append (bytes_at t (part_at t k).content) (2 ∷ bytes_at t (part_at t k).rest));
+        }
 
-pub length_overlay : (xs : List ℕ) (i : ℕ) (bs : List ℕ) → length (overlay xs i bs) ≡ length xs
-length_overlay xs i [] = refl
-length_overlay xs i (b ∷ bs) = length_overlay (set xs i b) (i + 1) bs ∙ simp length-set
+-- a list that begins with `front`, and goes on as xs does
+pub record Begun (front xs ys : List ℕ) : Type 0 where
+  pub is : ys ≡ front ++ drop (length front) xs
+  pub fits : length front ≤ length xs
 
-overlay_append : (xs : List ℕ) (i : ℕ) (ds bs : List ℕ) → overlay xs i (ds ++ bs) ≡ overlay (overlay xs i ds) (i + length ds) bs
-overlay_append xs i [] bs = let e : i ≡ i + 0 = omega arith in ap (λ (j : ℕ). overlay xs j bs) e
-overlay_append xs i (a ∷ ds) bs =
-    let e : i + 1 + length ds ≡ i + suc (length ds) = omega arith in
-    overlay_append (set xs i a) (i + 1) ds bs ∙ ap (λ (j : ℕ). overlay (overlay (set xs i a) (i + 1) ds) j bs) e
+pub length_begun : {front xs ys : List ℕ} → Begun front xs ys → length ys ≡ length xs
+length_begun {front} {xs} {ys} h = ap length h.is ∙ omega (arith, length-append front (drop (length front) xs), length-drop (length front) xs)
 
-overlay_past : (x : ℕ) (xs : List ℕ) (i : ℕ) (bs : List ℕ) → overlay (x ∷ xs) (suc i) bs ≡ x ∷ overlay xs i bs
-overlay_past x xs i [] = refl
-overlay_past x xs i (b ∷ bs) =
-    let e : suc i + 1 ≡ suc (i + 1) = omega arith in
-    ap (λ (j : ℕ). overlay (x ∷ set xs i b) j bs) e ∙ overlay_past x (set xs i b) (i + 1) bs
+pub rest_of : {front xs ys : List ℕ} (k : ℕ) → Begun front xs ys → k ≡ length front → take (length ys - k) (drop k ys) ≡ drop k xs
+rest_of {front} {xs} {ys} k h e =
+    let at : drop k ys ≡ drop k xs = ap (drop k) h.is ∙ drop_at front (drop (length front) xs) k (sym e) ∙ ap (λ (n : ℕ). drop n xs) (sym e) in
+    let same = length_begun h in
+    take_all (length ys - k) (drop k ys) (omega (arith, length-drop k ys)) ∙ at
 
-pub overlay_front : (xs bs : List ℕ) → length bs ≤ length xs → overlay xs 0 bs ≡ bs ++ drop (length bs) xs
-overlay_front xs [] h = refl
-overlay_front [] (b ∷ bs) h = absurd (omega arith)
-overlay_front (x ∷ xs) (b ∷ bs) h = overlay_past b xs 0 bs ∙ ap (λ (ys : List ℕ). b ∷ ys) (overlay_front xs bs (omega arith))
+-- one byte more
+pub begun_byte : {front xs ys : List ℕ} (k b : ℕ) → Begun front xs ys → k ≡ length front → k < length xs → Begun (front ++ (b ∷ [])) xs (set ys k b)
+begun_byte {front} {xs} {ys} k b h e lt =
+    let n = length front in
+    let more : suc n ≡ length (front ++ (b ∷ [])) = omega (arith, length-append front (b ∷ [])) in
+    let here : drop n xs ≡ get_or xs n 0 ∷ drop (suc n) xs = drop-cons xs n 0 (omega arith) in record {
+      is = ap (λ (zs : List ℕ). set zs k b) (h.is ∙ ap (λ (zs : List ℕ). front ++ zs) here)
+          ∙ set_at front (get_or xs n 0) (drop (suc n) xs) b k (sym e)
+          ∙ sym (append_assoc front (b ∷ []) (drop (suc n) xs))
+          ∙ ap (λ (m : ℕ). (front ++ (b ∷ [])) ++ drop m xs) more;
+      fits = omega arith;
+    }
 
--- two bytes, and then the rest
-pub wrote_text : (xs bs : List ℕ) (i : ℕ) → overlay (set (set xs i 3) (i + 1) 0) (i + 2) bs ≡ overlay xs i (3 ∷ 0 ∷ bs)
-wrote_text xs bs i = let e : i + 2 ≡ i + 1 + 1 = omega arith in ap (λ (j : ℕ). overlay (set (set xs i 3) (i + 1) 0) j bs) e
+-- a part more
+pub begun_part : {front xs ys : List ℕ} (part zs : List ℕ) (k r : ℕ) → Begun front xs ys → k ≡ length front → r ≡ length part → k + r ≤ length xs
+    → zs ≡ part ++ drop r (take (length ys - k) (drop k ys)) → Begun (front ++ part) xs (put_mid k (length ys - k) ys zs)
+begun_part {front} {xs} {ys} part zs k r h e e' fits is =
+    let more : k + r ≡ length (front ++ part) = omega (arith, length-append front part) in
+    let before : take k ys ≡ front = ap (take k) h.is ∙ take_at front (drop (length front) xs) k (sym e) in
+    let within : zs ≡ part ++ drop (k + r) xs = is ∙ ap (λ (us : List ℕ). part ++ drop r us) (rest_of k h e) ∙ ap (λ (us : List ℕ). part ++ us) (drop-drop r k xs) in
+    let after : drop (length ys - k) (drop k ys) ≡ [] = drop_all (length ys - k) (drop k ys) (omega (arith, length-drop k ys)) in record {
+      is = ap (λ (us : List ℕ). us ++ (zs ++ drop (length ys - k) (drop k ys))) before
+          ∙ ap (λ (us : List ℕ). front ++ (zs ++ us)) after
+          ∙ ap (λ (us : List ℕ). front ++ us) (append-nil zs ∙ within)
+          ∙ sym (append_assoc front part (drop (k + r) xs))
+          ∙ ap (λ (m : ℕ). (front ++ part) ++ drop m xs) more;
+      fits = omega arith;
+    }
 
--- three bytes, the content, a byte, and then the rest
-pub wrote_node : (xs cs bs : List ℕ) (i hi lo end : ℕ) → end ≡ i + 3 + length cs
-    → overlay (set (overlay (set (set (set xs i 1) (i + 1) hi) (i + 2) lo) (i + 3) cs) end 2) (end + 1) bs ≡ overlay xs i (1 ∷ hi ∷ lo ∷ (cs ++ (2 ∷ bs)))
-wrote_node xs cs bs i hi lo end p =
-    let two : i + 2 ≡ i + 1 + 1 = omega arith in
-    let three : i + 3 ≡ i + 1 + 1 + 1 = omega arith in
-    let there : end ≡ i + 1 + 1 + 1 + length cs = omega arith in
-    let ys : ℕ → List ℕ = λ j. set (set (set xs i 1) (i + 1) hi) j lo in
-    let zs : ℕ → List ℕ = λ j. overlay (ys (i + 1 + 1)) j cs in
-    ap (λ (j : ℕ). overlay (set (overlay (ys j) (i + 3) cs) end 2) (end + 1) bs) two
-    ∙ ap (λ (j : ℕ). overlay (set (zs j) end 2) (end + 1) bs) three
-    ∙ ap (λ (j : ℕ). overlay (set (zs (i + 1 + 1 + 1)) j 2) (j + 1) bs) there
-    ∙ sym (overlay_append (ys (i + 1 + 1)) (i + 1 + 1 + 1) cs (2 ∷ bs))
+-- the first bytes written
+pub begun_opening : (xs head front : List ℕ) (k : ℕ) → k ≡ length front → k ≤ length xs → head ≡ front → Begun front xs (head ++ drop k xs)
+begun_opening xs head front k e le is = record { is = ap (λ (us : List ℕ). us ++ drop k xs) is ∙ ap (λ (n : ℕ). front ++ drop n xs) e; fits = omega arith }
 
-pub length_node : (cs bs : List ℕ) (hi lo : ℕ) → length (1 ∷ hi ∷ lo ∷ (cs ++ (2 ∷ bs))) ≡ 4 + length cs + length bs
-length_node cs bs hi lo = omega (arith, length-append cs (2 ∷ bs))
+-- a node's opening, its content and its closing
+abbrev pub closed_part : List Part → ℕ → ℕ → List ℕ
+closed_part t k l = ((1 ∷ l / 256 ∷ l % 256 ∷ []) ++ bytes_at t (part_at t k).content) ++ (2 ∷ [])
 
-pub length_after : (xs ys : List ℕ) (i j k l x y z : ℕ) (bs : List ℕ) → ys ≡ overlay (set (set (set xs i x) j y) k z) l bs → length ys ≡ length xs
-length_after xs ys i j k l x y z bs e = ap length e ∙ length_overlay (set (set (set xs i x) j y) k z) l bs ∙ simp length-set
+-- ys begins with an opening and the content, and once closed, there is room for the rest
+pub record Closing (t : List Part) (k l r : ℕ) (xs ys : List ℕ) : Type 0 where
+  pub opened : length ys ≡ length xs
+  pub begun : Begun (closed_part t k l) xs (set ys (3 + r) 2)
+  pub same : length (set ys (3 + r) 2) ≡ length xs
+  pub end : 3 + r + 1 ≡ length (closed_part t k l)
+  pub fits : 3 + r + 1 + length (bytes_at t (part_at t k).rest) ≤ length xs
+  pub left : length (take (length (set ys (3 + r) 2) - (3 + r + 1)) (drop (3 + r + 1) (set ys (3 + r) 2))) ≡ length xs - (3 + r + 1)
+
+pub closing : {t : List Part} {k l : ℕ} (n : NodeAt t k l) (xs head zs : List ℕ) (r : ℕ) → length (bytes_at t k) ≤ length xs
+    → head ≡ 1 ∷ l / 256 ∷ l % 256 ∷ [] → r ≡ length (bytes_at t (part_at t k).content)
+    → zs ≡ bytes_at t (part_at t k).content ++ drop r (take (length (head ++ drop 3 xs) - 3) (drop 3 (head ++ drop 3 xs)))
+    → Closing t k l r xs (put_mid 3 (length (head ++ drop 3 xs) - 3) (head ++ drop 3 xs) zs)
+closing {t} {k} {l} n xs head zs r room is size wrote =
+    let cs = bytes_at t (part_at t k).content in
+    let front = (1 ∷ l / 256 ∷ l % 256 ∷ []) ++ cs in
+    let content : Begun front xs (put_mid 3 (length (head ++ drop 3 xs) - 3) (head ++ drop 3 xs) zs) =
+    begun_part cs zs 3 r (begun_opening xs head (1 ∷ l / 256 ∷ l % 256 ∷ []) 3 refl (omega arith) is) refl size (omega arith) wrote in
+    let begun = begun_byte (3 + r) 2 content (omega arith) (omega arith) in
+    let end : 3 + r + 1 ≡ length (front ++ (2 ∷ [])) = omega (arith, length-append front (2 ∷ [])) in
+    record {
+      opened = length_begun content;
+      begun = begun;
+      same = length_begun begun;
+      end = end;
+      fits = omega arith;
+      left = ap length (rest_of (3 + r + 1) begun end) ∙ length-drop (3 + r + 1) xs;
+    }

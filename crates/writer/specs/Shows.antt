@@ -1,8 +1,9 @@
 -- What is written of an element of a survey's list.
-use Rattle.std.specs.Prelude.{◌≡◌, ℕ, ◌<◌, ◌≤◌, Bool, true, false, ◌⊎◌, List, ◌++◌, length, drop}
+use Rattle.std.specs.Prelude.{◌≡◌, ℕ, ◌<◌, ◌≤◌, Bool, true, false, ◌⊎◌, List, ◌++◌, length, drop, slice_index_or}
 use Rattle.forest.specs.Forest.{Forest, bytes_of}
+use Rattle.measure.specs.Lengths.{length_of}
 use Rattle.survey.specs.declared.types.Sort.{Sort}
-use Rattle.survey.specs.Survey.{Setting, Stands}
+use Rattle.survey.specs.Survey.{Setting, Rebuilt, Stands}
 use Rattle.writer.specs.declared.parts.Part.{Part}
 use Rattle.writer.specs.Tables.{part_at}
 
@@ -15,7 +16,21 @@ abbrev pub Put : Forest → (before after : List ℕ) → Bool → Type 0
 Put f before after true = (length (bytes_of f) ≤ used) × (length (bytes_of f) ≤ length before) × (after ≡ bytes_of f ++ drop (length (bytes_of f)) before)
 Put f before after false = ((used < length (bytes_of f)) ⊎ (length before < length (bytes_of f))) × (after ≡ before)
 
--- A forest of the element's sort, cost and length is put.
+-- The entry at k of the list spells the forest.
+abbrev pub Spells : {C : Type 0} → List (Sort C) → ℕ → Forest → Type 0
+Spells {C} xs k f = (d : Sort C) → Rebuilt (λ j. slice_index_or xs j d) k f
+
+-- Each entry up to the one at `top` spells a forest, and tells its length.
+abbrev pub Readable : {C : Type 0} → List (Sort C) → ℕ → Type 0
+Readable {C} xs top = (k : ℕ) → k ≤ top → (f : Forest) × Spells xs k f × ((d : Sort C) → length_of f ≡ (slice_index_or xs k d).length)
+
+-- The forest that the entry at k spells is put.
+pub record Written {C : Type 0} (xs : List (Sort C)) (k : ℕ) (before after : List ℕ) (shown : Bool) : Type 0 where
+  pub forest : Forest
+  pub spelled : Spells xs k forest
+  pub put : Put forest before after shown
+
+-- A forest of the element's sort, cost and length is put. Of a survey's list each element's forest is one.
 pub record Shown {C : Type 0} (Γ : Setting C) (x : Sort C) (before after : List ℕ) (shown : Bool) : Type 0 where
   pub forest : Forest
   pub stands : Stands Γ x forest

@@ -1,5 +1,5 @@
 -- The forests that a table stands for.
-use Rattle.std.specs.Prelude.{ℕ, zero, suc, ◌+◌, ◌<◌, ◌≤◌, List, [], ◌∷◌, slice_index_or, slice_set}
+use Rattle.std.specs.Prelude.{ℕ, zero, suc, ◌<◌, ◌≤◌, List, [], slice_index_or}
 use Rattle.forest.specs.Forest.{Forest, nil, text, node}
 use Rattle.survey.specs.declared.types.First.{First}
 use Rattle.survey.specs.declared.types.First.TheVariants.{Nothing, Text, Node}
@@ -34,8 +34,3 @@ BelowBy (Node l) c r k = (c < k) × (r < k)
 -- so do those of each entry up to the one at top
 abbrev pub Lower : List Part → ℕ → Type 0
 Lower t top = (k : ℕ) → k ≤ top → BelowBy (part_at t k).first (part_at t k).content (part_at t k).rest k
-
--- xs with the bytes from i on
-abbrev pub overlay : List ℕ → ℕ → List ℕ → List ℕ
-overlay xs i [] = xs
-overlay xs i (b ∷ bs) = overlay (slice_set xs i b) (i + 1) bs

@@ -1,7 +1,5 @@
-use Rattle.std.proofs.Common.{◌≡◌, ℕ, ◌<◌, ◌≤◌, List, ◌++◌, length, get_or, sym, ap, ◌∙◌, subst, inl, inr, zero-add, arith, rules}
-use Rattle.std.proofs.lemmas.List.{append-nil, drop_all}
+use Rattle.std.proofs.Common.{◌≡◌, ℕ, ◌<◌, ◌≤◌, List, length, get_or, sym, ◌∙◌, subst, inl, inr, zero-add, arith, rules}
 use Rattle.std.proofs.lemmas.Result.{err_from_is_err_and}
-use Rattle.forest.specs.Forest.{bytes_of}
 use Rattle.forest.specs.Reading.{Due, too_long, within, DueWithin}
 use Rattle.forest.specs.Steps.{Refused}
 use Rattle.forest.proofs.Stretches.{refused_after, refused_here, stray}
@@ -29,12 +27,3 @@ returns-then-end-body c =
     due c.args.body.now 7 c.in_ok-end.end (search rules)
     (refused_after 64 0 c.args.body.now 0 c.in_ok-end.end 7 c.in_ok-end.end (omega arith) w.0
     (refused_here 0 c.args.body.now c.in_ok-end.end 7 (stray c.args.body.now c.in_ok-end.end l o)))
-
-pub returns : goal.returns
-returns c =
-    let s = c.in_ok-end.ensures.0 in
-    let l : length c.args.body.now ≤ 4096 = search rules in
-    let z = drop_all c.in_ok-end.end c.args.body.now (search rules) in
-    let e : c.args.body.now ≡ bytes_of s.forest = s.is_written ∙ ap (λ k. bytes_of s.forest ++ k) z ∙ append-nil (bytes_of s.forest) in
-    let n : length c.args.body.now ≡ length (bytes_of s.forest) = ap length e in
-    (s.forest, record { is_record = record { proper = s.proper; short = omega arith; shallow = s.shallow }; is_written = e })

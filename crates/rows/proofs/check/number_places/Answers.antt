@@ -1,6 +1,5 @@
-use Rattle.std.proofs.Common.{◌≡◌, ℕ, ◌+◌, ◌<◌, length, get_or, take, set, sym, refl, ap, ◌∙◌, subst, arith, get_or-set_other, get_or-set_same, below_more}
+use Rattle.std.proofs.Common.{◌≡◌, ℕ, ◌+◌, ◌<◌, length, get_or, take, set, sym, refl, ◌∙◌, subst, arith, get_or-set_other, get_or-set_same, below_more}
 use lib.Count.{ones}
-use Rattle.std.proofs.lemmas.List.{take_all}
 use Rattle.rows.specs.Sheet.{empty, places}
 use Rattle.rows.proofs.Checks.{PlaceSet, place_of, place_more, place_same, set_more, set_same_more}
 use Rattle.rows.proofs.check.number_places.Goals as goal
@@ -9,7 +8,7 @@ use Rattle.rows.proofs.check.number_places.Goals.{then-is_place+else-count-eq64,
 pub returns-then-count-eq64 : goal.returns-then-count-eq64
 returns-then-count-eq64 c = (
   refl,
-  place_of c.args.rows.now c.loop-e.e empty c.loop-e-test.true (c.if-is_place.ensures.0 tt),
+  place_of c.args.rows.now c.loop-e.e empty c.loop-e-test.true (sym c.if-is_place.ensures),
   sym c.loop-e.invariant.0.many ∙ c.if-count-eq64.true,
 )
 
@@ -26,24 +25,16 @@ loop-e-preserved c =
     (get_or-set_same c.loop-e.numbers e (ones c.loop-e.set) 0 l ∙ p.many) in
     elim c.if-is_place.branch [
       | then-is_place+else-count-eq64 w ↦
-          let y = w.if-is_place.ensures.0 tt in
+          let y = sym w.if-is_place.ensures in
           let w128 : c.loop-e.e < 128 = omega arith in (
             subst (λ (m : ℕ). PlaceSet c.args.rows.now (c.loop-e.e + 1) m) (sym w.set-is) (set_more s e c.loop-e.set empty w128 h y p),
             omega (arith, place_more s e empty h y, p.many, w.if-count-eq64.false),
             n,
           )
       | else-is_place w ↦
-          let y : _ → ⊥ = λ z. w.if-is_place.ensures.1 z in (
+          let y = sym w.if-is_place.ensures in (
             subst (λ (m : ℕ). PlaceSet c.args.rows.now (c.loop-e.e + 1) m) (sym w.set-is) (set_same_more s e c.loop-e.set empty h y p),
             omega (arith, place_same s e empty h y),
             n,
           )
     ]
-
-pub returns : goal.returns
-returns c =
-    let s = c.args.rows.now in
-    let q = ap places (take_all c.loop-e.e s c.loop-e-test.false) in
-    let inv = c.loop-e.invariant in
-    let l = c.loop-e-test.false in
-    (omega (arith, q), λ e h. inv.2 e (omega arith))

@@ -2,14 +2,13 @@ use Rattle.std.proofs.Common.{sym, refl, ap, ◌∙◌, below_more}
 use mathlib.Core.Option.{some}
 use Rattle.rows.specs.Sheet.{empty}
 use Rattle.rows.specs.Checking.{OnceAPart, is_definition}
-use Rattle.rows.proofs.Numbers.{at_get_or}
-use Rattle.rows.proofs.Checks.{definition_row, not_definition}
+use Rattle.rows.proofs.Numbers.{at_get_or, definition_row, not_definition}
 use Rattle.rows.proofs.Tallies.{zeros, once_used, used_once}
 use Rattle.rows.proofs.check.parts_once.Goals as goal
 use Rattle.rows.proofs.check.parts_once.Goals.{else-not-once-via-then-not-once+else-not-is_definition, else-not-once-via-else-not-once}
 
-pub tally-requires : goal.tally-requires
-tally-requires c = record { fitting = (c.requires.0, (c.requires.1, refl)); unused = λ a. zeros 128 a }
+pub tally-requires-clause-unused : goal.tally-requires-clause-unused
+tally-requires-clause-unused c = λ a. zeros 128 a
 
 pub returns-then-not-is_definition : goal.returns-then-not-is_definition
 returns-then-not-is_definition c =
@@ -21,7 +20,7 @@ returns-then-not-is_definition c =
         below = c.loop-a.invariant;
         fails = λ z. c.if-not-once.true
             (c.tally.ensures c.loop-a.a
-            ∙ used_once s c.loop-a.a (not_definition s c.loop-a.a _ i c.if-not-is_definition.ensures.1) z);
+            ∙ used_once s c.loop-a.a (not_definition s c.loop-a.a _ i (sym c.if-not-is_definition.ensures)) z);
       },
     )
 
@@ -32,6 +31,6 @@ loop-a-preserved c =
     below_more (OnceAPart s) c.loop-a.a c.loop-a.invariant
     (elim c.else-not-once.branch [
       | else-not-once-via-then-not-once+else-not-is_definition w ↦
-          let d = definition_row _ (w.if-not-is_definition.ensures.0 tt) in is_definition (i ∙ ap some d.1)
+          let d = definition_row _ (sym w.if-not-is_definition.ensures) in is_definition (i ∙ ap some d.1)
       | else-not-once-via-else-not-once w ↦ once_used s c.loop-a.a (sym (c.tally.ensures c.loop-a.a) ∙ w.if-not-once.false)
     ])

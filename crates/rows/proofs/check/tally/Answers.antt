@@ -9,15 +9,15 @@ use Rattle.rows.proofs.check.tally.Goals as goal
 pub tally_row-requires : goal.tally_row-requires
 tally_row-requires c =
     let s = c.args.rows.now in
-    let h = c.loop-e-test.true in record {
-      below = fit_below s c.loop-e.e _ _ c.requires.fitting.0 (at_get_or s c.loop-e.e empty h) (omega arith);
-      few = λ a. let m = uses_most s c.loop-e.e a in let q = c.loop-e.invariant a in omega arith;
+    let h = c.loop-row-test.true in record {
+      below = fit_below s c.loop-row.row-index _ _ c.requires.fitting.0 (at_get_or s c.loop-row.row-index empty h) (omega arith);
+      few = λ a. let m = uses_most s c.loop-row.row-index a in let q = c.loop-row.invariant a in omega arith;
     }
 
-pub loop-e-preserved : goal.loop-e-preserved
-loop-e-preserved c a =
+pub loop-row-preserved : goal.loop-row-preserved
+loop-row-preserved c a =
     let s = c.args.rows.now in
-    let h = c.loop-e-test.true in
-    c.tally_row.ensures a ∙ ap (λ (n : ℕ). n + hits a (some (get_or s c.loop-e.e empty))) (c.loop-e.invariant a)
-    ∙ ap (λ (o : Option Row). uses s c.loop-e.e a + hits a o) (sym (at_get_or s c.loop-e.e empty h))
-    ∙ ap (λ (j : ℕ). uses s j a) (sym (add-one c.loop-e.e))
+    let h = c.loop-row-test.true in
+    c.tally_row.ensures a ∙ ap (λ (n : ℕ). n + hits a (some (get_or s c.loop-row.row-index empty))) (c.loop-row.invariant a)
+    ∙ ap (λ (o : Option Row). uses s c.loop-row.row-index a + hits a o) (sym (at_get_or s c.loop-row.row-index empty h))
+    ∙ ap (λ (j : ℕ). uses s j a) (sym (add-one c.loop-row.row-index))

@@ -2,5 +2,5 @@ use Rattle.std.proofs.Common.{◌≡◌, ℕ, get_or}
 use Rattle.rows.specs.Parts.{uses}
 use Rattle.rows.proofs.check.tally.Given as goal
 
-abbrev pub invariant-loop-e : goal.invariant-loop-e
-invariant-loop-e l = (a : ℕ) → get_or l.used a 0 ≡ uses l.rows l.e a
+abbrev pub invariant-loop-row : goal.invariant-loop-row
+invariant-loop-row l = (a : ℕ) → get_or l.used a 0 ≡ uses l.rows l.row-index a

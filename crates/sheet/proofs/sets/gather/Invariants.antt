@@ -1,10 +1,7 @@
-use Rattle.std.proofs.Common.{ℕ, ◌^◌, ◌<◌, ◌⊎◌, ◌↔◌, get_or}
+use Rattle.std.proofs.Common.{ℕ, ◌⊎◌, ◌↔◌}
 use Rattle.sheet.specs.Standing.{Bit}
+use Rattle.sheet.proofs.Walking.{Among}
 use Rattle.sheet.proofs.sets.gather.Given as goal
 
-abbrev pub invariant-loop-left : goal.invariant-loop-left
-invariant-loop-left l = (l.left < 2 ^ 64) × ((i : ℕ)
-    → (Bit i l.all ⊎ ((j : ℕ) × Bit j l.left × Bit i (get_or l.table j 0))) ↔ ((j : ℕ) × Bit j l.set × Bit i (get_or l.table j 0)))
-
-abbrev pub decreases-loop-left : goal.decreases-loop-left
-decreases-loop-left l = l.left
+abbrev pub invariant-loop-place : goal.invariant-loop-place
+invariant-loop-place l = (i : ℕ) → (Bit i l.all ⊎ Among l.table l.place-iterator.0 i) ↔ Among l.table l.set i

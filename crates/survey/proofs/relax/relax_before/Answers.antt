@@ -1,34 +1,24 @@
-use Rattle.std.proofs.Common.{◌+◌, length, refl, inr, arith}
-use Rattle.survey.specs.Stocks.{root_at}
-use Rattle.survey.proofs.Basics.{grown_none}
-use Rattle.survey.proofs.Loops.{kept_cap, grown_cap}
-use Rattle.survey.proofs.Stocking.{rooted_move, joined_more}
+use Rattle.std.proofs.Common.{◌+◌, length, arith}
+use Rattle.survey.specs.KeptTrees.{tree_at}
+use Rattle.survey.proofs.Loops.{grown_cap}
+use Rattle.survey.proofs.KeptTrees.{over_move, joined_more}
 use Rattle.survey.proofs.relax.relax_before.Goals as goal
 use Rattle.survey.specs.Survey.{entry, setting}
 
-pub loop-t-init : goal.loop-t-init
-loop-t-init g c = (grown_none _ _ _ _ c.requires.kept, λ i h. absurd (omega arith))
+pub relax_node-requires-clause-over : goal.relax_node-requires-clause-over
+relax_node-requires-clause-over g c =
+    let Γ = setting (g.M.Measure.model c.args.rules.now.measure.now) (g.S.Sorting.model c.args.rules.now.sorting.now) in
+    over_move (entry Γ c.args.list.now) (entry Γ c.loop-tree.list) (c.args.last + 1) (c.args.last + 1) (tree_at c.args.trees.now c.loop-tree.tree-index) (omega arith) c.loop-tree.invariant.0.same (c.requires.over c.loop-tree.tree-index (omega arith))
 
-pub relax_node-requires : goal.relax_node-requires
-relax_node-requires g c =
-    let Γ = setting (g.M.Measure.model c.args.measure.now) (g.S.Sorting.model c.args.sorting.now) in
-    let gr = c.loop-t.invariant.0 in
-    record {
-      kept = kept_cap (omega arith) gr.kept;
-      rooted = rooted_move (entry Γ c.args.list.now) (entry Γ c.loop-t.list) (c.args.last + 1) (c.args.last + 1) (root_at c.args.trees.now c.loop-t.t) (omega arith) gr.same (c.requires.rooted c.loop-t.t (omega arith));
-      bounds = omega arith;
-      new = inr refl;
-    }
-
-pub loop-t-preserved : goal.loop-t-preserved
-loop-t-preserved g c =
-    let Γ = setting (g.M.Measure.model c.args.measure.now) (g.S.Sorting.model c.args.sorting.now) in
+pub loop-tree-preserved : goal.loop-tree-preserved
+loop-tree-preserved g c =
+    let Γ = setting (g.M.Measure.model c.args.rules.now.measure.now) (g.S.Sorting.model c.args.rules.now.sorting.now) in
     let so = c.requires.kept.sound in
-    let z = c.in_ok-found.ensures in
-    joined_more so (entry Γ c.args.list.now) (entry Γ c.loop-t.list) (entry Γ c.relax_node.new.list)
-    c.args.last c.args.len c.loop-t.found c.in_ok-found.found (length c.args.list.now) c.loop-t.t (root_at c.args.trees.now) (λ _. c.args.last)
-    (λ k lt. (c.requires.rooted k (omega arith)).content) (λ k lt. omega arith)
-    c.loop-t.invariant.0 c.loop-t.invariant.1 (grown_cap (omega arith) z.0) z.1
+    let z = c.in_ok-relax_node.ensures in
+    joined_more so (entry Γ c.args.list.now) (entry Γ c.loop-tree.list) (entry Γ c.relax_node.new.list)
+    c.args.last c.args.listing.now.len c.loop-tree.listing.len c.relax_node.new.listing.len (length c.args.list.now) c.loop-tree.tree-index (tree_at c.args.trees.now) (λ _. c.args.last)
+    (λ k lt. (c.requires.over k (omega arith)).content) (λ k lt. omega arith)
+    c.loop-tree.invariant.0 c.loop-tree.invariant.1 (grown_cap (omega arith) z.0) z.1
 
 pub returns : goal.returns
-returns g c = (c.loop-t.invariant.0, λ k h. c.loop-t.invariant.1 k (omega arith))
+returns g c = (c.loop-tree.invariant.0, λ k h. c.loop-tree.invariant.1 k (omega arith))

@@ -1,31 +1,15 @@
-use Rattle.std.proofs.Common.{refl, arith}
-use Rattle.survey.proofs.Basics.{differ}
-use Rattle.survey.proofs.Stocking.{new_known, new_full, new_kept}
+use Rattle.survey.proofs.KeptTrees.{new_known, new_tried}
 use Rattle.survey.proofs.relax.relax_new.Goals as goal
-use Rattle.survey.specs.Survey.{setting}
 
-pub returns-then-known : goal.returns-then-known
-returns-then-known g c =
-    let Γ = setting (g.M.Measure.model c.args.measure.now) (g.S.Sorting.model c.args.sorting.now) in
-    let so = c.requires.kept.sound in
-    let a = c.known.ensures c.if-known.true in
-    let z = new_known so c.args.list.now c.args.last c.args.round.len c.args.trees.now c.args.round.kept c.args.tree c.requires.kept c.requires.bounds c.requires.trees c.requires.new a in
-    (z.0, z.1, λ h. (h, a))
-
-pub returns-then-round-trees : goal.returns-then-round-trees
-returns-then-round-trees g c =
-    let Γ = setting (g.M.Measure.model c.args.measure.now) (g.S.Sorting.model c.args.sorting.now) in
-    let so = c.requires.kept.sound in
-    let z = c.in_ok-found.ensures in (
-      new_full so c.args.list.now c.relax_over.new.list c.args.last c.args.round.len c.in_ok-found.found c.args.trees.now c.args.round.kept z.0 c.requires.bounds c.requires.trees,
-      z.1,
-      λ h. absurd (differ refl h),
-    )
+pub returns-then-has : goal.returns-then-has
+returns-then-has g c =
+    let a = c.has.ensures c.if-has.true in
+    let z = new_known c.requires.kept.sound c.args.list.now c.args.last c.args.listing.now.len c.args.trees.now c.args.tree c.requires.kept c.requires.trees c.requires.new a in
+    (z.0, z.1, λ h. a)
 
 pub returns : goal.returns
 returns g c =
-    let Γ = setting (g.M.Measure.model c.args.measure.now) (g.S.Sorting.model c.args.sorting.now) in
-    let so = c.requires.kept.sound in
-    let z = c.in_ok-found.ensures in
-    let y = new_kept so c.args.list.now c.relax_over.new.list c.args.last c.args.round.len c.in_ok-found.found c.args.trees.now c.args.round.kept c.args.tree z.0 (omega arith) c.requires.trees c.requires.rooted z.1 in
-    (y.0, z.1, λ h. (h, y.1))
+    let z = c.in_ok-relax_over.ensures in
+    let y = new_tried c.requires.kept.sound c.args.list.now c.relax_over.new.list c.args.last c.args.listing.now.len c.relax_over.new.listing.len c.args.trees.now c.keep.new.self c.keep.result c.args.tree
+    c.keep.ensures.room c.keep.ensures.full z.0 c.requires.trees c.requires.over z.1 in
+    (y.0, z.1, y.1)

@@ -1,8 +1,5 @@
-use Rattle.register.proofs.Changes.{no_zero, no_such, there}
+use Rattle.register.proofs.Changes.{no_such, there}
 use Rattle.register.proofs.register.Register.find.Goals as goal
-
-pub returns-in_err-index : goal.returns-in_err-index
-returns-in_err-index c = rw c.from_residual.ensures (no_zero c.args.self.now c.args.number c.in_err-index.ensures)
 
 pub returns-in_err-body : goal.returns-in_err-body
 returns-in_err-body c =

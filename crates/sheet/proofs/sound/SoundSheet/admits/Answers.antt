@@ -8,4 +8,4 @@ use Rattle.sheet.proofs.sound.SoundSheet.admits.Goals as goal
 pub returns : goal.returns
 returns c = λ f a.
     Iff.trans (not_zero (bit_and c.args.standing c.args.self.now.tables.top))
-    (top_belongs (compiled c.args.self.now.sound c.args.self.now.compiled) (omega arith) a)
+    (top_belongs (compiled c.args.self.now.checked.sound c.args.self.now.compiled) (omega arith) a)

@@ -4,4 +4,4 @@ use Rattle.sheet.proofs.Stepping.{content_held}
 use Rattle.sheet.proofs.sound.SoundSheet.holding.Goals as goal
 
 pub returns : goal.returns
-returns c = λ f a. content_held c.gather.result (compiled c.args.self.now.sound c.args.self.now.compiled) (omega arith) c.gather.ensures f a
+returns c = λ f a. content_held c.gather.result (compiled c.args.self.now.checked.sound c.args.self.now.compiled) (omega arith) c.gather.ensures f a

@@ -3,4 +3,4 @@ use Rattle.sheet.proofs.Stepping.{empty_stands}
 use Rattle.sheet.proofs.sound.SoundSheet.of_empty.Goals as goal
 
 pub returns : goal.returns
-returns c = empty_stands (compiled c.args.self.now.sound c.args.self.now.compiled)
+returns c = empty_stands (compiled c.args.self.now.checked.sound c.args.self.now.compiled)

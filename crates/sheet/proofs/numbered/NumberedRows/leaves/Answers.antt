@@ -1,0 +1,68 @@
+use Rattle.std.proofs.Common.{◌≡◌, ℕ, ap, ◌∙◌, arith}
+use mathlib.Core.Option.{some}
+use Rattle.rows.specs.Sheet.{a_leaf, leaf_text, leaf_named, leaf_any}
+use Rattle.rows.specs.declared.row.Row.TheVariants.{Empty as empty}
+use Rattle.sheet.specs.Compiled.{TextAt, NamedAt, AnyAt}
+use Rattle.rows.proofs.Numbers.{at_get_or, at_below}
+use Rattle.sheet.proofs.Tabling.{leaf_more, leaf_stay, leaf_all, not_text, not_named, not_any}
+use Rattle.sheet.proofs.numbered.NumberedRows.leaves.Goals as goal
+use Rattle.sheet.proofs.numbered.NumberedRows.leaves.Goals.{in-Text, in-Named, in-Any, in_default}
+
+pub place-texts-requires : goal.place-texts-requires
+place-texts-requires c = a_leaf (leaf_text (at_get_or c.args.self.rows.now c.loop-p.p empty c.loop-p-test.true ∙ ap some c.in-Text.is))
+
+pub place-named-requires : goal.place-named-requires
+place-named-requires c = a_leaf (leaf_named (at_get_or c.args.self.rows.now c.loop-p.p empty c.loop-p-test.true ∙ ap some c.in-Named.is))
+
+pub place-anys-requires : goal.place-anys-requires
+place-anys-requires c = a_leaf (leaf_any (at_get_or c.args.self.rows.now c.loop-p.p empty c.loop-p-test.true ∙ ap some c.in-Any.is))
+
+pub loop-p-preserved : goal.loop-p-preserved
+loop-p-preserved c =
+    let s = c.args.self.rows.now in
+    let p = c.loop-p.p in
+    let i = at_get_or s p empty c.loop-p-test.true in
+    let inv = c.loop-p.invariant in
+    elim c.match-row.branch [
+      | in-Text w ↦
+          let q = w.in-Text.is in
+          let j = i ∙ ap some q in
+          rw (w.texts-is, w.named-is, w.anys-is) (
+            leaf_more (TextAt s) p j (a_leaf (leaf_text j)) w.place-texts.ensures inv.0,
+            leaf_stay (NamedAt s) p (not_named s p i (λ l d k. let y : ◌≡◌ {A = ℕ} 0 1 = cc in omega arith)) inv.1,
+            leaf_stay (AnyAt s) p (not_any s p i (λ d k. let y : ◌≡◌ {A = ℕ} 0 1 = cc in omega arith)) inv.2,
+          )
+      | in-Named w ↦
+          let q = w.in-Named.is in
+          let j = i ∙ ap some q in
+          rw (w.texts-is, w.named-is, w.anys-is) (
+            leaf_stay (TextAt s) p (not_text s p i (λ k. let y : ◌≡◌ {A = ℕ} 0 1 = cc in omega arith)) inv.0,
+            leaf_more (NamedAt s) p (_, _, j) (a_leaf (leaf_named j)) w.place-named.ensures inv.1,
+            leaf_stay (AnyAt s) p (not_any s p i (λ d k. let y : ◌≡◌ {A = ℕ} 0 1 = cc in omega arith)) inv.2,
+          )
+      | in-Any w ↦
+          let q = w.in-Any.is in
+          let j = i ∙ ap some q in
+          rw (w.texts-is, w.named-is, w.anys-is) (
+            leaf_stay (TextAt s) p (not_text s p i (λ k. let y : ◌≡◌ {A = ℕ} 0 1 = cc in omega arith)) inv.0,
+            leaf_stay (NamedAt s) p (not_named s p i (λ l d k. let y : ◌≡◌ {A = ℕ} 0 1 = cc in omega arith)) inv.1,
+            leaf_more (AnyAt s) p (_, j) (a_leaf (leaf_any j)) w.place-anys.ensures inv.2,
+          )
+      | in_default w ↦
+          rw (w.texts-is, w.named-is, w.anys-is) (
+            leaf_stay (TextAt s) p (not_text s p i w.in_default.not-Text) inv.0,
+            leaf_stay (NamedAt s) p (not_named s p i w.in_default.not-Named) inv.1,
+            leaf_stay (AnyAt s) p (not_any s p i w.in_default.not-Any) inv.2,
+          )
+    ]
+
+pub returns : goal.returns
+returns c =
+    let s = c.args.self.rows.now in
+    let h = c.loop-p-test.false in
+    let inv = c.loop-p.invariant in
+    record {
+      texts = leaf_all (TextAt s) c.loop-p.p (λ p z. let l = at_below s p _ z in omega arith) inv.0;
+      named = leaf_all (NamedAt s) c.loop-p.p (λ p z. let l = at_below s p _ z.2 in omega arith) inv.1;
+      anys = leaf_all (AnyAt s) c.loop-p.p (λ p z. let l = at_below s p _ z.1 in omega arith) inv.2;
+    }
