@@ -39,6 +39,7 @@ fn check_sheet(body: &[u8]) -> Result<SoundSheet, Fault>
 }
 
 /// What a line tells of a proposal.
+// No `From`, as for a filing: both types are of other crates.
 fn tell_proposal(answer: Result<usize, Declined<u32>>) -> Line
     ensures { (show : List ℕ) → fields result show ≡ of_proposal answer show }
 {

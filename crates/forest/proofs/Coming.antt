@@ -1,5 +1,5 @@
 -- What a body hands out next, from the tokens that are still to come.
-use Rattle.std.proofs.Common.{◌≡◌, ℕ, suc, ◌+◌, ◌-◌, ◌*◌, ◌/◌, ◌%◌, ◌<◌, ◌≤◌, List, [], ◌∷◌, ◌++◌, length, get_or, take, drop, Some, None, sym, refl, ap, ◌∙◌, subst, add-zero, div-add-mod', arith, length-append, length-drop, Bor}
+use Rattle.std.proofs.Common.{◌≡◌, ℕ, suc, ◌+◌, ◌-◌, ◌*◌, ◌/◌, ◌%◌, ◌<◌, ◌≤◌, List, [], ◌∷◌, ◌++◌, length, get_or, take, drop, Some, sym, refl, ap, ◌∙◌, subst, add-zero, div-add-mod', arith, length-append, length-drop, Bor}
 use mathlib.Core.Logic.{∥∥₁_elim, ∥∥₁_map}
 use native.Mathlib.Bridge.{le_prop}
 use Rattle.std.proofs.lemmas.List.{take_at, drop_at, drop-drop, get_or-drop, length-take-le}
@@ -97,19 +97,6 @@ text_here body at n (closing ∷ ts) l b0 b1 c =
 first : (body : List ℕ) (at x : ℕ) (s : List ℕ) → drop at body ≡ x ∷ s → get_or body at 0 ≡ x
 first body at x s e = ap (λ n. get_or body n 0) (sym (add-zero at)) ∙ sym (get_or-drop at body 0 0) ∙ ap (λ y. get_or y 0 0) e
 
-pub hands_none : (body : List ℕ) (at : ℕ) (ts : List Token) → (at + 2 < length body → get_or body at 0 ≡ 1 → ⊥) → (at < length body → get_or body at 0 ≡ 2 → ⊥)
-    → (at + 1 < length body → get_or body at 0 ≡ 3 → ⊥) → ToCome body at ts → Handed body at ts None at
-hands_none body at [] n1 n2 n3 c = refl
-hands_none body at (opening l ∷ ts) n1 n2 n3 c =
-    let a = after body at 3 (written (opening l)) (all_written ts) c.inside refl c.are_written in
-    n1 (omega (arith, a.0)) (first body at 1 _ c.are_written)
-hands_none body at (chars t ∷ ts) n1 n2 n3 c =
-    let a = after body at (length (written (chars t))) (written (chars t)) (all_written ts) c.inside refl c.are_written in
-    n3 (omega (arith, a.0)) (first body at 3 _ c.are_written)
-hands_none body at (closing ∷ ts) n1 n2 n3 c =
-    let a = after body at 1 (written closing) (all_written ts) c.inside refl c.are_written in
-    n2 (omega (arith, a.0)) (first body at 2 _ c.are_written)
-
 -- What was handed out, some tokens are still to come.
 pub goes_on : (body : List ℕ) (at : ℕ) (ts : List Token) (e : Event) (next : ℕ) → Handed body at ts (Some e) next → (us : List Token) × ToCome body next us
 goes_on body at [] e next h = absurd h
@@ -135,9 +122,6 @@ is_text body at (chars t ∷ ts) c l n1 n2 =
     let b = after body at (length (written (chars t))) (written (chars t)) (all_written ts) c.inside refl c.are_written in
     (e, omega (arith, b.0))
 is_text body at (closing ∷ ts) c l n1 n2 = absurd (n2 (first body at 2 (all_written ts) c.are_written))
-
-pub hands_end : (body : List ℕ) (at : ℕ) (ts : List Token) → at ≡ length body → ToCome body at ts → Handed body at ts None at
-hands_end body at ts e c = hands_none body at ts (λ l. absurd (omega arith)) (λ l. absurd (omega arith)) (λ l. absurd (omega arith)) c
 
 pub hands_text : (body : List ℕ) (at n : ℕ) (bytes : Bor (List ℕ)) (ts : List Token) → at + 1 < length body → get_or body at 0 ≡ 3 → get_or body (at + 1) 0 ≡ n
     → bytes.now ≡ take n (drop (at + 2) body) → ToCome body at ts → Handed body at ts (Some (Text bytes (at + 2))) (at + 2 + n)

@@ -45,7 +45,7 @@ impl<'a> Iterator for Events<'a> {
     ghost remaining = { λ s. at_most (length s.body.now - s.at) };
 
     // By the mark alone: patterns of slices would look again at lengths that the checked body is known to have, and took
-    // a fifth more instructions on texts.
+    // a tenth more instructions on texts.
     fn next(&mut self) -> Option<Event<'a>> {
         let body = self.body;
         let at = self.at;

@@ -13,4 +13,5 @@ pub mod record;
 pub use event::Event;
 pub use events::Events;
 pub use fault::{Fault, Refusal};
+pub use marks::{CLOSING, OPENING, TEXT};
 pub use record::Record;

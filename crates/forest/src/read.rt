@@ -42,6 +42,7 @@ pub fn read_forest(body: &[u8], at: usize, nesting: usize) -> Result<usize, Faul
     ensures { MatchResult result (λ e. Stretch nesting body.now at e × Stops body.now e)
         (λ x. Refused (64 - nesting) body.now at (number_of x.refusal) x.place) }
 {
+    // By offset: a tree tells where it ends, and a refusal where it stands.
     let mut at = at;
     while at < body.len() && body[at] != CLOSING {
         at = read_tree(body, at, nesting)?;

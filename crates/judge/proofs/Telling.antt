@@ -1,6 +1,7 @@
 -- What a judgement by sorts says of two sheets.
 use Rattle.forest.specs.Refusals.{told as fault_told}
 use Rattle.std.proofs.Common.{◌≡◌, ℕ, Bool, true, false, not, T, ◌⊎◌, ◌↔◌, List, Ok, Err, Result, sym, refl, ◌∙◌, subst, inl, inr, arith}
+use Rattle.std.proofs.lemmas.Bool.{both_ways}
 use Rattle.forest.specs.declared.fault.Fault.{Fault}
 use Rattle.forest.specs.Forest.{Forest, bytes_of}
 use Rattle.measure.specs.Measure.{Costs}
@@ -15,7 +16,7 @@ use Rattle.loss.specs.Losing.{Tells}
 use Rattle.loss.specs.declared.verdict.Verdict.{Verdict}
 use Rattle.loss.specs.declared.verdict.Verdict.TheVariants.{AllAdmitted, Lost}
 use Rattle.loss.specs.Verdict as by
-use Rattle.loss.specs.Verdict.{Few, CheapestLost, Refusal, no_list, too_many}
+use Rattle.loss.specs.Verdict.{Few, CheapestLost, RefusalDue, no_list, too_many}
 use Rattle.judge.specs.declared.pair.Pair.{Pair}
 use Rattle.judge.specs.Pairs.{sorting_of, sides_of}
 use Rattle.judge.specs.Judging.{MoreSorts, Shows, Told}
@@ -23,14 +24,11 @@ use Rattle.judge.specs.Judged.{Judged, Unbegun, Fit}
 use Rattle.judge.specs.Places.{same_standing, same_number}
 use Rattle.judge.specs.Pairing.{sorts}
 
-differ : {b : Bool} → b ≡ true → b ≡ false → ⊥
-differ p q = cc
-
 module _ (p : Pair) (σ : Standings) where
   pub admitted : (a b : Bool) → ((f : Forest) → IsStanding (rows_of p.old) σ.old f → T a ↔ OfSheet (rows_of p.old) f)
       → ((f : Forest) → IsStanding (rows_of p.new) σ.new f → T b ↔ OfSheet (rows_of p.new) f) → a ≡ true → Tells (sorting_of p) (sides_of p) σ (not b)
-  admitted a true x y e = record { yes = λ h. absurd (differ h refl); no = λ _ f counted has o. (y f has.1).0 tt }
-  admitted a false x y e = record { yes = λ _ f counted has. ((x f has.0).0 (subst T (sym e) tt), λ o. (y f has.1).1 o); no = λ h. absurd (differ refl h) }
+  admitted a true x y e = record { yes = λ h. absurd (both_ways _ refl h); no = λ _ f counted has o. (y f has.1).0 tt }
+  admitted a false x y e = record { yes = λ _ f counted has. ((x f has.0).0 (subst T (sym e) tt), λ o. (y f has.1).1 o); no = λ h. absurd (both_ways _ h refl) }
 
 shows : (f : Forest) (before after : List ℕ) (shown : Bool) → Put f before after shown → Shows (bytes_of f) shown before after
 shows f before after true z = (omega (arith, z.0, z.1), z.2)
@@ -65,12 +63,12 @@ module _ (p : Pair) where
           least = λ g h. rw l.cost_is (l.least g h.proper (h.of_old, h.not_of_new));
         }
 
-    refusal : {L : Type 0} (n : ℕ) (list list' : L) (tells : ℕ × ℕ) → Refusal (sorting_of p) n list list' tells
+    refusal : {L : Type 0} (n : ℕ) (list list' : L) (tells : ℕ × ℕ) → RefusalDue (sorting_of p) n list list' tells
         → ((tells ≡ (20, 0)) × (Fit n → ⊥)) ⊎ ((tells ≡ (21, 0)) × Fit n × MoreSorts (rows_of p.old) (rows_of p.new) n)
     refusal n list list' tells (no_list h e) = inl (refl, λ fit. elim h [ inl x ↦ omega (arith, fit.0) | inr x ↦ omega (arith, fit.1) ])
     refusal n list list' tells (too_many low high t) = inr (refl, (low, high), more_sorts n t)
 
-    unbegun_at : {L : Type 0} (n : ℕ) (list list' : L) (tells : ℕ × ℕ) → Refusal (sorting_of p) n list list' tells → tells.0 ≡ 20 → list' ≡ list
+    unbegun_at : {L : Type 0} (n : ℕ) (list list' : L) (tells : ℕ × ℕ) → RefusalDue (sorting_of p) n list list' tells → tells.0 ≡ 20 → list' ≡ list
     unbegun_at n list list' tells (no_list h e) q = e
     unbegun_at n list list' tells (too_many low high t) q = absurd (omega arith)
 

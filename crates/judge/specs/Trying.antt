@@ -2,13 +2,11 @@
 use Rattle.std.specs.Prelude.{◌≡◌, ℕ, zero, suc, ◌+◌, ◌<◌, ◌≤◌, ◌≢◌, ◌⊎◌, List, [], ◌∷◌, length, slice_index, slice_index_or, Contains}
 use Rattle.std.proofs.Common.{sym, ◌∙◌, inl, inr, arith}
 use Rattle.std.proofs.lemmas.Grind.{get_or_default_zero}
+use Rattle.std.proofs.lemmas.Bool.{cases_eq}
 use Rattle.loss.proofs.Pigeons.{pigeon}
 
 pub place : (ls : List ℕ) (l : ℕ) → Contains ls l → (k : ℕ) × (k < length ls) × (slice_index ls k ≡ l)
 place ls l z = (z.0, z.1, sym (get_or_default_zero ls z.0 l z.1) ∙ z.2)
-
-same_or_not : (k i : ℕ) → (k ≡ i) ⊎ (k ≢ i)
-same_or_not k i = grind arith
 
 elsewhere : (x : ℕ) (ls : List ℕ) (l : ℕ) → x ≢ l → (Contains ls l → ⊥) → (k : ℕ) → k < length (x ∷ ls) → slice_index_or (x ∷ ls) k l ≡ l → ⊥
 elsewhere x ls l ne u zero h e = ne e
@@ -17,7 +15,7 @@ elsewhere x ls l ne u (suc k) h e = u (k, omega arith, e)
 -- a label is among them or not
 pub found : (ls : List ℕ) (l : ℕ) → Contains ls l ⊎ (Contains ls l → ⊥)
 found [] l = inr (λ z. absurd (omega (arith, z.1)))
-found (x ∷ ls) l = go (same_or_not x l) (found ls l)
+found (x ∷ ls) l = go (cases_eq x l) (found ls l)
   where
     go : (x ≡ l) ⊎ (x ≢ l) → Contains ls l ⊎ (Contains ls l → ⊥) → Contains (x ∷ ls) l ⊎ (Contains (x ∷ ls) l → ⊥)
     go (inl e) q = inl (0, omega arith, e)

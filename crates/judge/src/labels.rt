@@ -85,7 +85,8 @@ impl Labels {
         requires { length self.old + 1 ≤ 257 }
         ensures { (l : ℕ) × (Label l × (Contains self.old l → ⊥) × (self.new ≡ self.old ++ l ∷ [])) }
     {
-        for label in 1..258 {
+        // One of 257 labels is free. It is a loop: with `find`, what it says where it finds none stayed open.
+        for label in 1..=257 {
             if !self.has(label) {
                 self.push(label);
                 return;

@@ -21,6 +21,7 @@ pub use survey::Sort;
 /// Judges a new sheet against an old one: every forest of the old sheet belongs to the new one, or one of least cost
 /// that does not is told and, where it fits, shown. Refuses with 20 a working list of 0 or above 1,024 elements, before
 /// anything, and with 21 where there are more sorts of forests than elements.
+// Five inputs, as judging has them: a list and a buffer in one struct would be made for each call and taken apart again.
 pub fn judge<M: Measure>(
     old: &SoundSheet,
     new: &SoundSheet,

@@ -99,7 +99,7 @@ pub fn print_judged<M: Printed>(
     }
 }
 
-// How many bytes at the front of the buffer are not all as they were.
+// How many bytes there are up to the last that changed.
 fn touched(show: &[u8]) -> usize {
     show.iter()
         .rposition(|b| *b != UNTOUCHED)

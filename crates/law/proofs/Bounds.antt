@@ -4,29 +4,28 @@ use Rattle.std.proofs.Math.Option.{Option, none, some}
 use Rattle.std.proofs.Math.Seq.{drop-length, take-append_seam}
 use Rattle.std.proofs.lemmas.List.{append-nil}
 use Rattle.std.proofs.lemmas.Slice.{drop-append-drop}
+use Rattle.forest.specs.declared.fault.Fault.{Fault}
+use Rattle.forest.specs.Refusals.{told}
 use Rattle.forest.specs.Forest.{Forest, bytes_of}
-use Rattle.forest.specs.Reading.{StandsFor}
-use Rattle.forest.proofs.Forms.{one_form}
 use Rattle.rows.specs.Sheet.{Sheet}
 use Rattle.sheet.specs.Meaning.{OfSheet}
 use Rattle.measure.specs.Measure.{Costs, cost_of}
 use Rattle.measure.proofs.Lengths.{counts_bytes}
 use Rattle.judge.specs.Judging.{Told, Lost, front}
-use Rattle.law.specs.Calls.{Held, numbered}
+use Rattle.law.specs.declared.Declined.TheVariants.{Refused}
+use Rattle.law.specs.Calls.{Held, numbered, Reason, reason, refusal}
 use Rattle.law.specs.Bounds.{FilingBounds, FetchingBounds, ProposalBounds, MemoryBounds, LossShows, CallBounds}
-use Rattle.law.proofs.Lists.{numbered_within, rows_push, bytes_push}
-
-one_forest : (body : List ℕ) (f g : Forest) → StandsFor body f → StandsFor body g → f ≡ g
-one_forest body f g p q = one_form f g (sym p.is_written ∙ q.is_written)
+use Rattle.law.proofs.Lists.{one_forest, numbered_within, rows_push, bytes_push}
 
 filing_bounds : FilingBounds
 filing_bounds =
     record {
-      no_edition = λ n free body. inl (λ z. z, refl);
-      no_record = λ x n free body r place d. inr (tt, inl d);
-      not_of_newest = λ x n free body f s o. inr (tt, inr ((f, s), inl (λ r. o (subst (OfSheet x) (one_forest body r.forest f r.stands s) r.belongs), refl)));
-      one_too_many = λ x free body r. inr (tt, inr ((r.forest, r.stands), inr (r, inl (λ p. let q = p.0 in omega arith, refl))));
-      one_byte_short = λ x n free body r e. inr (tt, inr ((r.forest, r.stands), inr (r, inl (λ p. let q = p.1 in omega arith, refl))));
+      no_edition = λ n free body f t. inl (λ z. z, t);
+      no_record = λ x n free body f d. inr (tt, inl d);
+      not_of_newest = λ x n free body forest f s o t.
+          inr (tt, inr ((forest, s), inl (λ r. o (subst (OfSheet x) (one_forest body r.forest forest r.stands s) r.belongs), t)));
+      one_too_many = λ x free body f r t. inr (tt, inr ((r.forest, r.stands), inr (r, inl (λ p. let q = p.0 in omega arith, t))));
+      one_byte_short = λ x n free body f r e t. inr (tt, inr ((r.forest, r.stands), inr (r, inl (λ p. let q = p.1 in omega arith, t))));
       last = λ x body r. ((tt, ((r.forest, r.stands), (r, ((omega arith, omega arith), tt)))), refl);
     }
 
@@ -47,21 +46,28 @@ front_all w buffer e = sym (ap (λ (n : ℕ). w ++ drop n buffer) (sym e) ∙ ap
 fetching_bounds : (s : Held) → FetchingBounds s
 fetching_bounds s =
     record {
-      none_is_0 = λ buffer. rw (numbered_0 s.kept) (refl, refl);
-      past_last = λ buffer. rw (numbered_past s.kept (length s.kept + 1) (omega arith)) (refl, refl);
+      none_is_0 = λ buffer f t. rw (numbered_0 s.kept) (t, refl);
+      past_last = λ buffer f t. rw (numbered_past s.kept (length s.kept + 1) (omega arith)) (t, refl);
       fits = λ k r buffer e l. rw e (inl (omega arith, refl, front_all r.bytes buffer l));
-      one_byte_short = λ k r buffer e l. rw e (inr (omega arith, refl, refl));
+      one_byte_short = λ k r buffer f e l t. rw e (inr (omega arith, t, refl));
     }
+
+-- what a fault tells, it tells as the reason of a proposal that is declined
+refuses : {C : Type 0} (f : Fault) (n : ℕ) → told f ≡ (n, 0) → reason {C = C} (Refused f) ≡ refusal n 0
+refuses {C} f n t = ap tells t
+  where
+    tells : ℕ × ℕ → Reason C
+    tells x = refusal x.0 x.1
 
 proposal_bounds : {C : Type 0} (L : Type 0) (costs : Costs C) (sheet : Sheet) → ProposalBounds L costs sheet
 proposal_bounds L costs sheet =
     record {
-      no_list = λ given x n free e. inl (λ p. let q = p.0 in omega arith, refl, refl);
-      long_list = λ given x n free e. inl (λ p. let q = p.1 in omega arith, refl, refl);
-      one_too_many = λ given x free e. inr ((omega arith, omega arith), inl (λ p. let q = p.0 in omega arith, refl, refl));
-      one_row_short = λ given x n free e l. inr ((omega arith, omega arith), inl (λ p. let q = p.1 in omega arith, refl, refl));
+      no_list = λ given x n free f e t. inl (λ p. let q = p.0 in omega arith, refuses f _ t, refl);
+      long_list = λ given x n free f e t. inl (λ p. let q = p.1 in omega arith, refuses f _ t, refl);
+      one_too_many = λ given x free f e t. inr ((omega arith, omega arith), inl (λ p. let q = p.0 in omega arith, refuses f _ t, refl));
+      one_row_short = λ given x n free f e l t. inr ((omega arith, omega arith), inl (λ p. let q = p.1 in omega arith, refuses f _ t, refl));
       first = λ given e. (((omega arith, omega arith), ((omega arith, omega arith), tt)), (refl, refl));
-      more_sorts = λ given left old e m b. inr ((omega arith, omega arith), inr ((omega arith, omega arith), inl (rw e m, refl, b)));
+      more_sorts = λ given left old f e m b t. inr ((omega arith, omega arith), inr ((omega arith, omega arith), inl (rw e m, refuses f _ t, b)));
       last = λ given left old e m k b. (((omega arith, omega arith), ((omega arith, omega arith), (rw e m, (k, tt)))), (refl, b));
       loss = λ given left old l e m t.
           inr ((omega arith, omega arith), inr ((omega arith, omega arith), inr (rw e m, inl (record { cost = l.cost; size = l.length; shown = l.shown; tells = refl; told = t }))));

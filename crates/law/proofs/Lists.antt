@@ -1,9 +1,16 @@
--- The last item and the item of a number, with one more at the end.
+-- The last item and the item of a number, with one more at the end; and the one forest of a body.
 use Rattle.std.proofs.Common.{◌≡◌, ℕ, zero, suc, ◌+◌, ◌-◌, ◌<◌, ◌≤◌, min, ◌⊎◌, List, [], ◌∷◌, ◌++◌, length, drop, sym, refl, ◌∙◌, inl, inr, arith}
 use Rattle.std.proofs.Math.Option.{Option, some}
 use Rattle.std.proofs.lemmas.List.{length-drop, length_push}
+use Rattle.forest.specs.Forest.{Forest}
+use Rattle.forest.specs.Reading.{StandsFor}
+use Rattle.forest.proofs.Forms.{one_form}
 use Rattle.rows.specs.Sheet.{Sheet}
 use Rattle.law.specs.Calls.{Kept, last_or, numbered, rows_of, bytes_in}
+
+-- a body stands for one forest
+pub one_forest : (body : List ℕ) (f g : Forest) → StandsFor body f → StandsFor body g → f ≡ g
+one_forest body f g p q = one_form f g (sym p.is_written ∙ q.is_written)
 
 pub split : (a b : ℕ) → (a ≤ b) ⊎ (b < a)
 split a b = grind arith

@@ -1,7 +1,7 @@
 -- Calls at their bounds: the last that is accepted and the first that is not, and which check comes first.
-use Rattle.forest.specs.declared.fault.Refusal.{Refusal}
-use Rattle.forest.specs.Refusals.{number_of, fault}
-use Rattle.forest.specs.declared.fault.Refusal.TheVariants.{ListSize, TooManySorts, EditionsFull, NoEdition, NotOfNewest, RecordsFull, NoRecord, BufferTooShort}
+-- A refusal is any fault that tells its number and place.
+use Rattle.forest.specs.declared.fault.Fault.{Fault}
+use Rattle.forest.specs.Refusals.{number_of, told}
 use Rattle.std.specs.Prelude.{◌≡◌, ℕ, ◌+◌, ◌<◌, ◌≤◌, min, true, false, ◌⊎◌, List, length, take, drop, Ok, Err}
 use Rattle.std.proofs.Math.Option.{Option, none, some}
 use Rattle.forest.specs.Forest.{Forest, bytes_of}
@@ -17,38 +17,38 @@ use Rattle.law.specs.Calls.{Kept, Held, Begun, numbered, free_rows, free_bytes, 
 
 -- A filing, by the newest edition, the number of records held and of bytes free.
 pub record FilingBounds : Type 0 where
-  pub no_edition : (n free : ℕ) (body : List ℕ) → Filing none n free body (Err (fault NoEdition 0))
-  pub no_record : (x : Sheet) (n free : ℕ) (body : List ℕ) (r : Refusal) (place : ℕ) → Due body (number_of r) place
-      → Filing (some x) n free body (Err (fault r place))
-  pub not_of_newest : (x : Sheet) (n free : ℕ) (body : List ℕ) (f : Forest) → StandsFor body f → (OfSheet x f → ⊥)
-      → Filing (some x) n free body (Err (fault NotOfNewest 0))
-  pub one_too_many : (x : Sheet) (free : ℕ) (body : List ℕ) → RecordOf x body → Filing (some x) 256 free body (Err (fault RecordsFull 0))
-  pub one_byte_short : (x : Sheet) (n free : ℕ) (body : List ℕ) → RecordOf x body → length body ≡ free + 1
-      → Filing (some x) n free body (Err (fault RecordsFull 0))
+  pub no_edition : (n free : ℕ) (body : List ℕ) (f : Fault) → told f ≡ (31, 0) → Filing none n free body (Err f)
+  pub no_record : (x : Sheet) (n free : ℕ) (body : List ℕ) (f : Fault) → Due body (number_of f.refusal) f.place
+      → Filing (some x) n free body (Err f)
+  pub not_of_newest : (x : Sheet) (n free : ℕ) (body : List ℕ) (forest : Forest) (f : Fault) → StandsFor body forest → (OfSheet x forest → ⊥)
+      → told f ≡ (32, 0) → Filing (some x) n free body (Err f)
+  pub one_too_many : (x : Sheet) (free : ℕ) (body : List ℕ) (f : Fault) → RecordOf x body → told f ≡ (33, 0) → Filing (some x) 256 free body (Err f)
+  pub one_byte_short : (x : Sheet) (n free : ℕ) (body : List ℕ) (f : Fault) → RecordOf x body → length body ≡ free + 1
+      → told f ≡ (33, 0) → Filing (some x) n free body (Err f)
   pub last : (x : Sheet) (body : List ℕ) → RecordOf x body → Filing (some x) 255 (length body) body (Ok 256)
 
 -- A fetch, by what is held: records are numbered from 1, and a buffer may be as long as the record.
 pub record FetchingBounds (s : Held) : Type 0 where
-  pub none_is_0 : (buffer : List ℕ) → Fetched s 0 buffer (Err (fault NoRecord 0)) buffer
-  pub past_last : (buffer : List ℕ) → Fetched s (length s.kept + 1) buffer (Err (fault NoRecord 0)) buffer
+  pub none_is_0 : (buffer : List ℕ) (f : Fault) → told f ≡ (34, 0) → Fetched s 0 buffer (Err f) buffer
+  pub past_last : (buffer : List ℕ) (f : Fault) → told f ≡ (34, 0) → Fetched s (length s.kept + 1) buffer (Err f) buffer
   pub fits : (k : ℕ) (r : Kept) (buffer : List ℕ) → numbered s.kept k ≡ some r → length buffer ≡ length r.bytes
       → Fetched s k buffer (Ok (length r.bytes, r.edition)) r.bytes
-  pub one_byte_short : (k : ℕ) (r : Kept) (buffer : List ℕ) → numbered s.kept k ≡ some r → length buffer + 1 ≡ length r.bytes
-      → Fetched s k buffer (Err (fault BufferTooShort 0)) buffer
+  pub one_byte_short : (k : ℕ) (r : Kept) (buffer : List ℕ) (f : Fault) → numbered s.kept k ≡ some r → length buffer + 1 ≡ length r.bytes
+      → told f ≡ (35, 0) → Fetched s k buffer (Err f) buffer
 
 -- A proposal, by the newest edition, the number of editions held and of rows free.
 pub record ProposalBounds {C : Type 0} (L : Type 0) (costs : Costs C) (sheet : Sheet) : Type 0 where
-  pub no_list : (given : Lent L) (x : Option Sheet) (n free : ℕ) → length given.list ≡ 0
-      → Proposing costs sheet given given x n free (Err (Refused (fault ListSize 0)))
-  pub long_list : (given : Lent L) (x : Option Sheet) (n free : ℕ) → length given.list ≡ 1025
-      → Proposing costs sheet given given x n free (Err (Refused (fault ListSize 0)))
-  pub one_too_many : (given : Lent L) (x : Option Sheet) (free : ℕ) → length given.list ≡ 1
-      → Proposing costs sheet given given x 16 free (Err (Refused (fault EditionsFull 0)))
-  pub one_row_short : (given : Lent L) (x : Option Sheet) (n free : ℕ) → length given.list ≡ 1024 → length sheet ≡ free + 1
-      → Proposing costs sheet given given x n free (Err (Refused (fault EditionsFull 0)))
+  pub no_list : (given : Lent L) (x : Option Sheet) (n free : ℕ) (f : Fault) → length given.list ≡ 0
+      → told f ≡ (20, 0) → Proposing costs sheet given given x n free (Err (Refused f))
+  pub long_list : (given : Lent L) (x : Option Sheet) (n free : ℕ) (f : Fault) → length given.list ≡ 1025
+      → told f ≡ (20, 0) → Proposing costs sheet given given x n free (Err (Refused f))
+  pub one_too_many : (given : Lent L) (x : Option Sheet) (free : ℕ) (f : Fault) → length given.list ≡ 1
+      → told f ≡ (30, 0) → Proposing costs sheet given given x 16 free (Err (Refused f))
+  pub one_row_short : (given : Lent L) (x : Option Sheet) (n free : ℕ) (f : Fault) → length given.list ≡ 1024 → length sheet ≡ free + 1
+      → told f ≡ (30, 0) → Proposing costs sheet given given x n free (Err (Refused f))
   pub first : (given : Lent L) → length given.list ≡ 1 → Proposing costs sheet given given none 0 (length sheet) (Ok 1)
-  pub more_sorts : (given left : Lent L) (old : Sheet) → length given.list ≡ 1024 → MoreSorts old sheet 1024 → left.show ≡ given.show
-      → Proposing costs sheet given left (some old) 15 (length sheet) (Err (Refused (fault TooManySorts 0)))
+  pub more_sorts : (given left : Lent L) (old : Sheet) (f : Fault) → length given.list ≡ 1024 → MoreSorts old sheet 1024 → left.show ≡ given.show
+      → told f ≡ (21, 0) → Proposing costs sheet given left (some old) 15 (length sheet) (Err (Refused f))
   pub last : (given left : Lent L) (old : Sheet) → length given.list ≡ 1024 → (MoreSorts old sheet 1024 → ⊥) → AllKept old sheet
       → left.show ≡ given.show → Proposing costs sheet given left (some old) 15 (length sheet) (Ok 16)
   pub loss : (given left : Lent L) (old : Sheet) (l : Loss C) → length given.list ≡ 1024

@@ -1,6 +1,7 @@
 -- What a survey says of lost forests.
 use Rattle.forest.specs.Refusals.{told as fault_told}
-use Rattle.std.proofs.Common.{◌≡◌, ℕ, ◌<◌, ◌≤◌, Bool, ◌⊎◌, List, length, take, get_or, Some, None, Option, sym, ◌∙◌, subst, inl, inr, arith}
+use Rattle.std.proofs.Common.{◌≡◌, ℕ, ◌<◌, ◌≤◌, Bool, List, length, take, get_or, Some, None, Option, sym, ◌∙◌, subst, inl, inr, arith}
+use Rattle.std.proofs.lemmas.Bool.{cases_lt}
 use Rattle.std.proofs.lemmas.List.{get_or-take, length-take-le}
 use Rattle.forest.specs.declared.fault.Fault.{Fault}
 use Rattle.forest.specs.Forest.{Forest}
@@ -11,17 +12,14 @@ use Rattle.survey.specs.declared.types.Sort.{Sort}
 use Rattle.survey.specs.Sorting.{Model}
 use Rattle.survey.specs.Survey.{setting, entry, blank, Surveyed, Stands, TooMany, Refused}
 use Rattle.writer.specs.Shows.{Shown}
-use Rattle.loss.specs.Verdict.{Few, CheapestLost, Refusal, too_many, most}
+use Rattle.loss.specs.Verdict.{Few, CheapestLost, RefusalDue, too_many, most}
 use Rattle.loss.specs.Losing.{Sides, AllOf}
 use Rattle.loss.specs.Firsts.{FirstLost}
 use Rattle.loss.proofs.Pigeons.{pigeon}
 
-below_or_not : (k i : ℕ) → (k < i) ⊎ (i ≤ k)
-below_or_not k i = grind arith
-
 module _ {C : Type 0} (m : Costs C) (s : Model) (sides : Sides) where
-  pub refusal : {L : Type 0} → (n cap : ℕ) → cap ≡ n → 0 < n → n ≤ most → (list list' : L) (f : Fault) → Refused (setting m s) cap f → Refusal s n list list' (fault_told f)
-  refusal n cap same low high list list' f r = subst (Refusal s n list list') (sym r.tells) (too_many low high (subst (TooMany s) same r.many))
+  pub refusal : {L : Type 0} → (n cap : ℕ) → cap ≡ n → 0 < n → n ≤ most → (list list' : L) (f : Fault) → Refused (setting m s) cap f → RefusalDue s n list list' (fault_told f)
+  refusal n cap same low high list list' f r = subst (RefusalDue s n list list') (sym r.tells) (too_many low high (subst (TooMany s) same r.many))
 
   module _ (xs : List (Sort C)) (n : ℕ) (sv : Surveyed (setting m s) (entry (setting m s) xs) n (length xs)) where
     abbrev e : ℕ → Sort C
@@ -63,7 +61,7 @@ module _ {C : Type 0} (m : Costs C) (s : Model) (sides : Sides) where
         least : (f : Forest) → Stands (setting m s) (e k) f → (g : Forest) → s.counts g → sides.lost g → m.le (cost_of m.rules f) (cost_of m.rules g)
         least f st g c l =
             let z = sv.complete g c in
-            elim (below_or_not z.0 k) [
+            elim (cases_lt z.0 k) [
               | inl lt ↦ absurd (apart g ((listed (Some k) first).2 z.0 lt g c z.2) l)
               | inr ge ↦ rw st.cost (order.trans _ _ _ (fine k within) (fine z.0 z.1) (cost_good laws g) (sv.ascending k z.0 ge z.1) z.3)
             ]

@@ -38,11 +38,11 @@ Answered s sides m before after AllAdmitted = ((f : Forest) → s.counts f → s
 Answered s sides m before after (Lost l) = CheapestLost s sides m before after l.cost l.length l.shown
 
 -- Refusal 20: a list of 0 or above 1,024 elements, which stays as it is. Refusal 21: more sorts than elements.
-pub data Refusal {L : Type 0} (s : Model) (n : ℕ) (list list' : L) : ℕ × ℕ → Type 0 where
-  no_list : (n ≡ 0) ⊎ (most < n) → list' ≡ list → Refusal s n list list' (20, 0)
-  too_many : 0 < n → n ≤ most → TooMany s n → Refusal s n list list' (21, 0)
+pub data RefusalDue {L : Type 0} (s : Model) (n : ℕ) (list list' : L) : ℕ × ℕ → Type 0 where
+  no_list : (n ≡ 0) ⊎ (most < n) → list' ≡ list → RefusalDue s n list list' (20, 0)
+  too_many : 0 < n → n ≤ most → TooMany s n → RefusalDue s n list list' (21, 0)
 
 -- Where neither is due, the answer; the other way round, a refusal leaves the show buffer.
 abbrev pub Judged : {C L : Type 0} → Model → Sides → Costs C → (n : ℕ) → (list list' : L) → (before after : List ℕ) → Result (Verdict C) Fault → Type 0
 Judged s sides m n list list' before after (Ok v) = (0 < n) × (n ≤ most) × Few s n × Answered s sides m before after v
-Judged s sides m n list list' before after (Err f) = Refusal s n list list' (told f) × (after ≡ before)
+Judged s sides m n list list' before after (Err f) = RefusalDue s n list list' (told f) × (after ≡ before)

@@ -1,6 +1,6 @@
 -- The fields of a register and what it holds.
 use Rattle.std.proofs.Common.{◌≡◌, ℕ, zero, suc, ◌+◌, ◌-◌, ◌<◌, ◌≤◌, min, List, [], ◌∷◌, ◌++◌, length, get_or, set, refl, ap, subst, arith}
-use mathlib.Core.Option.{Option, none, some}
+use mathlib.Core.Option.{none, some}
 use Rattle.std.specs.declared.option.Option as std
 use Rattle.std.specs.Prelude.{Some}
 use Rattle.sheet.specs.declared.sound.SoundSheet.{SoundSheet}
@@ -9,15 +9,10 @@ use Rattle.sheet.specs.Held.{rows_of}
 use Rattle.store.specs.Packing.{total}
 use Rattle.store.specs.Stores.{lists, free, Takes}
 use Rattle.store.proofs.Packed.{counted}
-use Rattle.law.specs.Calls.{Kept, last_or, newest, numbered, bytes_in, free_bytes}
+use Rattle.law.specs.Calls.{Kept, newest, numbered, bytes_in, free_bytes}
 use Rattle.register.specs.declared.register.Register.{Register}
 use Rattle.register.specs.Holding.{kept_under, held}
 use Rattle.register.specs.Inner.{TakesRecord}
-
--- the last is the one that was appended
-pub last_push : {X : Type 0} (o : Option X) (xs : List X) (x : X) → last_or o (xs ++ x ∷ []) ≡ some x
-last_push o [] x = refl
-last_push o (y ∷ ys) x = last_push (some y) ys x
 
 -- records beside their editions
 pub under_long : (ws : List (List ℕ)) (es : List ℕ) → length ws ≤ length es → length (kept_under ws es) ≡ length ws

@@ -10,13 +10,11 @@ use forest::{Fault, Refusal};
 use sheet::sound::SoundSheet;
 
 impl Register {
-    /// Refuses a body that stands for no record of the newest edition.
+    /// Refuses a body that stands for no record of the newest edition, and any body where there is no edition.
     pub(crate) fn admit(&self, body: &[u8]) -> Result<(), Fault>
         ensures { Admitting (newest (held self.now).editions) body.now result }
     {
-        let Some(newest) = &self.newest else {
-            return Err(refused(Refusal::NoEdition));
-        };
+        let newest = self.newest.as_ref().ok_or(refused(Refusal::NoEdition))?;
         if !newest.belongs(body)? {
             return Err(refused(Refusal::NotOfNewest));
         }
@@ -29,6 +27,7 @@ impl Register {
         ensures leaves { held self.new ≡ after_filing (held self.old) body.now result }
         ensures left { LeftIfRefused result self.old self.new }
     {
+        // No `or` or `map_err` with `?`: what is told and held after them did not prove.
         let Ok(index) = self.records.append(body) else {
             return Err(refused(Refusal::RecordsFull));
         };

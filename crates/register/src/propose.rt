@@ -9,15 +9,14 @@ use crate::register::{Register, refused};
 use forest::Refusal;
 use judge::{Sort, Verdict, judge};
 use law::Declined;
+use loss::MOST;
 use measure::Measure;
 use sheet::sound::SoundSheet;
-
-/// The most elements that a working list has.
-const MOST_SORTS: usize = 1024;
 
 impl Register {
     /// Judges the newest edition against the sheet, which becomes the newest edition where no forest is lost, and tells
     /// its number.
+    // The inputs of judging, as `judge` takes them.
     pub fn propose<M: Measure>(
         &mut self,
         sheet: &SoundSheet,
@@ -28,7 +27,7 @@ impl Register {
         ensures told { Proposed (M.Measure.model measure.now) (held self.old) (rows_of sheet.now) (lent list.old show.old) result (lent list.new show.new) (held self.new) }
         ensures left { LeftIfRefused result self.old self.new }
     {
-        if list.is_empty() || list.len() > MOST_SORTS {
+        if list.is_empty() || list.len() > MOST {
             return Err(Declined::Refused(refused(Refusal::ListSize)));
         }
         if !self.editions.takes(sheet.len()) {

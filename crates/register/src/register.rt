@@ -9,16 +9,20 @@ use rows::Row;
 use sheet::sound::SoundSheet;
 use store::Store;
 
-/// The most editions and records, and the most rows and record bytes of the memory that are used.
+/// The most editions.
 pub const EDITIONS: usize = 16;
 
+/// The most rows of the memory that are used.
 pub const ROWS: usize = 2048;
 
+/// The most records.
 pub const RECORDS: usize = 256;
 
+/// The most bytes of the memory that are used.
 pub const BYTES: usize = 65536;
 
 /// The editions and the records that were accepted, in memory that the caller handed over.
+// No Model: clauses speak of `held`, and a refusal leaves the whole value, the free memory included.
 #[derive(Drop)]
 pub struct Register {
     /// The rows of each edition.

@@ -21,7 +21,7 @@ mod tests {
 
     const TEXTS: [u8; 12] = [1, 0, 0, 0, 6, 0, 0, 0, 7, 1, 0, 0];
 
-    // Whether a test goes on.
+    // Whether a test goes on. The other crate of tests has this too: a library for one line would be no plainer.
     fn check(holds: bool) -> Result<(), Fail> {
         if holds {
             Ok(())

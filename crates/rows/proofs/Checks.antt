@@ -76,21 +76,9 @@ pub content_missing : (s : Sheet) (p : ℕ) (r : Row) (d : ℕ) → at s p ≡ s
 content_missing s p r d i (inl z) h f = let q = f d (by_named (i ∙ ap some z.1)) in omega arith
 content_missing s p r d i (inr z) h f = let q = f d (by_any (i ∙ ap some z)) in omega arith
 
-pub content_one : (s : Sheet) (p : ℕ) (r : Row) (d : ℕ) → at s p ≡ some r → NamesOne r d → d < definitions s → ContentThere s p
-content_one s p r d i (inl z) h c n =
-    let q = subst (λ (o : Option Row). NamesRow c o) (i ∙ ap some z.1) (names_row n) in omega arith
-content_one s p r d i (inr z) h c n =
-    let q = subst (λ (o : Option Row). NamesRow c o) (i ∙ ap some z) (names_row n) in omega arith
-
-pub content_none : (s : Sheet) (p : ℕ) (r : Row) → at s p ≡ some r → ((l d : ℕ) → r ≡ named l d → ⊥) → ((d : ℕ) → r ≡ any d → ⊥) → ContentThere s p
-content_none s p empty i f g d n = elim (subst (λ (o : Option Row). NamesRow d o) i (names_row n)) [ ]
-content_none s p one_text i f g d n = elim (subst (λ (o : Option Row). NamesRow d o) i (names_row n)) [ ]
-content_none s p (named l c) i f g d n = absurd (f l c refl)
-content_none s p (any c) i f g d n = absurd (g c refl)
-content_none s p (seq a b) i f g d n = elim (subst (λ (o : Option Row). NamesRow d o) i (names_row n)) [ ]
-content_none s p (alt a b) i f g d n = elim (subst (λ (o : Option Row). NamesRow d o) i (names_row n)) [ ]
-content_none s p (many a) i f g d n = elim (subst (λ (o : Option Row). NamesRow d o) i (names_row n)) [ ]
-content_none s p (def a) i f g d n = elim (subst (λ (o : Option Row). NamesRow d o) i (names_row n)) [ ]
+pub content_held : (s : Sheet) (p : ℕ) (r : Row) → at s p ≡ some r → ((d : ℕ) → NamesOne r d → d < definitions s) → ContentThere s p
+content_held s p r i f d (by_named {l = l} j) = f d (inl (l, cc))
+content_held s p r i f d (by_any j) = f d (inr cc)
 
 -- Counting places by ones.
 pub place_of : (s : Sheet) (e : ℕ) (d : Row) → e < length s → is_place_row (get_or s e d) ≡ true → Place s e

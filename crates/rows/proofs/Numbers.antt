@@ -17,7 +17,7 @@ at_get_or (r ∷ s) zero d h = refl
 at_get_or (r ∷ s) (suc i) d h = at_get_or s i d (le_of_suc-le-suc h)
 
 pub at_below : (s : Sheet) (e : ℕ) (r : Row) → at s e ≡ some r → e < length s
-at_below [] e r i = let z : ◌≡◌ {A = ℕ} 0 1 = cc in absurd (omega arith)
+at_below [] e r i = cc
 at_below (x ∷ s) zero r i = omega arith
 at_below (x ∷ s) (suc e) r i = let h = at_below s e r i in omega arith
 

@@ -16,16 +16,16 @@ said_label l d (says_named {h = h} {l = m} u) q = let p : 256 * h + m ≡ l = sa
   where
     same : {a b c d : ℕ} → named a b ≡ named c d → a ≡ c
     same h = cc
-said_label l d says_empty q = let z : ◌≡◌ {A = ℕ} 0 1 = cc in absurd (omega arith)
-said_label l d says_text q = let z : ◌≡◌ {A = ℕ} 0 1 = cc in absurd (omega arith)
-said_label l d says_any q = let z : ◌≡◌ {A = ℕ} 0 1 = cc in absurd (omega arith)
-said_label l d says_seq q = let z : ◌≡◌ {A = ℕ} 0 1 = cc in absurd (omega arith)
-said_label l d says_alt q = let z : ◌≡◌ {A = ℕ} 0 1 = cc in absurd (omega arith)
-said_label l d says_many q = let z : ◌≡◌ {A = ℕ} 0 1 = cc in absurd (omega arith)
-said_label l d says_def q = let z : ◌≡◌ {A = ℕ} 0 1 = cc in absurd (omega arith)
+said_label l d says_empty q = cc
+said_label l d says_text q = cc
+said_label l d says_any q = cc
+said_label l d says_seq q = cc
+said_label l d says_alt q = cc
+said_label l d says_many q = cc
+said_label l d says_def q = cc
 
 pub said_labels : {rs : List RawRow} {s : Sheet} → AllSay rs s → (e l d : ℕ) → at s e ≡ some (named l d) → Label l
-said_labels none_say e l d i = let z : ◌≡◌ {A = ℕ} 0 1 = cc in absurd (omega arith)
+said_labels none_say e l d i = cc
 said_labels (one_says {x = x} y u) zero l d i = let q : x ≡ named l d = cc in said_label l d y q
 said_labels (one_says y u) (suc e) l d i = said_labels u e l d i
 

@@ -90,7 +90,7 @@ hits_some a (some (many x)) h = (first, (refl, hit_is a x h))
 hits_some a (some (def x)) h = (first, (refl, hit_is a x h))
 
 sides_apart : first ≡ second → ⊥
-sides_apart h = let z : ◌≡◌ {A = ℕ} 0 1 = cc in omega arith
+sides_apart h = cc
 
 -- Both sides of a row are not the same row where that is hit once, and it is hit once where they are not.
 two_apart : (a x y : ℕ) → hit a x + hit a y ≡ 1 → (k k' : Side)

@@ -9,7 +9,8 @@ use super::row::Row;
 
 /// The rows of a sound sheet, `count` of them, and for each the number of its place: how many places stand below it.
 ///
-/// Arrays with a count, since a sheet is held by value and no call allocates.
+/// Arrays with a count, since a sheet is held by value and no call allocates. The numbers stand beside the rows, since
+/// the rows alone go on as one slice.
 #[derive(Clone, Copy)]
 pub struct CheckedRows {
     pub rows: [Row; MOST_ROWS],

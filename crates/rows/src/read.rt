@@ -7,12 +7,13 @@ ghost use Rattle.rows.specs.Raw.{Body, laid};
 use super::raw::RawRow;
 use forest::{Fault, Refusal};
 
-/// The most rows that a sheet has, and the most bytes that they take.
+/// The most rows that a sheet has.
 pub const MOST_ROWS: usize = 128;
 
+/// The most bytes that a body has: four for each row.
 const MOST_BYTES: usize = 512;
 
-/// 1 to 128 raw rows, as read from a body.
+/// 1 to 128 raw rows, as read from a body: an array with its count, since no call allocates.
 #[derive(Clone, Copy)]
 pub struct ReadSheet {
     pub(super) rows: [RawRow; MOST_ROWS],

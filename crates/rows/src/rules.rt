@@ -1,28 +1,29 @@
 //! The checks of a read sheet, in their order.
 
 ghost use Rattle.forest.specs.Refusals.{number_of};
-ghost use Rattle.std.specs.Prelude.{◌≡◌, ℕ, ◌<◌, ◌≤◌, length, MatchResult};
+ghost use Rattle.std.specs.Prelude.{◌<◌, MatchResult};
 ghost use Rattle.rows.specs.Checked.{Checked, raws_of};
-ghost use Rattle.rows.specs.Checking.{AtMostOne, Due, PartsFit, WrongOverAll};
+ghost use Rattle.rows.specs.Checking.{AtMostOne, Due, WrongOverAll};
 ghost use Rattle.rows.specs.Whole.{Whole};
 
-use super::check::{contents_there, number_places, parts_once, take_rows};
+use super::check::{TakenRows, contents_there, take_rows};
 use super::checked::CheckedRows;
 use super::read::{MOST_ROWS, ReadSheet};
 use super::row::Row;
 use forest::Fault;
 
-/// The checks over the whole sheet, refusals 12 to 14; numbers the places.
-fn check_whole(rows: &[Row], numbers: &mut [u8]) -> Result<(), Fault>
-    requires { (((e : ℕ) → PartsFit rows.now e)) × ((length rows.now ≤ 128) × (length numbers.old ≡ 128)) }
-    ensures { MatchResult result
-        (λ _. Whole rows.now numbers.new)
-        (λ f. WrongOverAll rows.now (number_of f.refusal) f.place) }
-{
-    parts_once(rows)?;
-    contents_there(rows)?;
-    number_places(rows, numbers)?;
-    Ok(())
+impl<'a> TakenRows<'a> {
+    /// The checks over the whole sheet, refusals 12 to 14; numbers the places.
+    fn check_whole(self, numbers: &mut [u8; MOST_ROWS]) -> Result<(), Fault>
+        ensures { MatchResult result
+            (λ _. Whole self.entry.rows.now numbers.new)
+            (λ f. WrongOverAll self.entry.rows.now (number_of f.refusal) f.place) }
+    {
+        self.parts_once()?;
+        contents_there(self.rows)?;
+        self.number_places(numbers)?;
+        Ok(())
+    }
 }
 
 impl ReadSheet {
@@ -38,7 +39,10 @@ impl ReadSheet {
         let mut rows = [Row::Empty; MOST_ROWS];
         take_rows(&self.rows[..count], &mut rows)?;
         let mut numbers = [0u8; MOST_ROWS];
-        check_whole(&rows[..count], &mut numbers)?;
+        let taken = TakenRows {
+            rows: &rows[..count],
+        };
+        taken.check_whole(&mut numbers)?;
         Ok(CheckedRows {
             rows,
             count,

@@ -8,7 +8,7 @@ use super::row::Row;
 use forest::{Fault, Refusal};
 
 /// Whether `part` is the number of a row below that is no definition.
-fn sits(below: &[Row], part: u8) -> bool
+fn is_part_below(below: &[Row], part: u8) -> bool
     ensures { T result ↔ Sits below.now part }
 {
     below
@@ -27,8 +27,8 @@ pub fn take_row(raw: RawRow, below: &[Row]) -> Result<Row, Fault>
         second,
         third,
     } = raw;
-    let a = sits(below, first);
-    let b = sits(below, second);
+    let a = is_part_below(below, first);
+    let b = is_part_below(below, second);
     match kind {
         0 if first == 0 && second == 0 && third == 0 => Ok(Row::Empty),
         1 if first == 0 && second == 0 && third == 0 => Ok(Row::Text),

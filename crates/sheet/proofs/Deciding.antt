@@ -1,5 +1,5 @@
 -- What the tables hold can be decided, so a truncated fact about them gives the fact itself.
-use Rattle.std.proofs.Common.{◌≡◌, ℕ, zero, suc, ◌+◌, Bool, true, false, T, ◌⊎◌, ◌↔◌, List, length, get_or, take, sym, refl, ap, subst, inl, inr, add-one, arith}
+use Rattle.std.proofs.Common.{◌≡◌, ℕ, zero, suc, ◌+◌, Bool, true, false, T, ◌⊎◌, ◌↔◌, List, length, get_or, take, sym, refl, ap, subst, inl, inr, add-one}
 use mathlib.Core.Logic.{∥∥₁_map, ∥∥₁_elim}
 use mathlib.Core.Option.{Option, none, some}
 use native.Mathlib.Decide.{ℕ_discrete}
@@ -69,14 +69,14 @@ module _ (s : Sheet) (w : WellFormed s) where
       other h n = by_iff (one k) (by_iff (through_stay s D k n) h)
 
       go : Either (Through s D k) → (o : Option Row) → at s k ≡ o → Either (Through s D (suc k))
-      go h none i = other h (λ x j. let z : ◌≡◌ {A = ℕ} 0 1 = cc in omega arith)
-      go h (some empty) i = other h (λ x j. let z : ◌≡◌ {A = ℕ} 0 1 = cc in omega arith)
-      go h (some one_text) i = other h (λ x j. let z : ◌≡◌ {A = ℕ} 0 1 = cc in omega arith)
-      go h (some (named l d)) i = other h (λ x j. let z : ◌≡◌ {A = ℕ} 0 1 = cc in omega arith)
-      go h (some (any d)) i = other h (λ x j. let z : ◌≡◌ {A = ℕ} 0 1 = cc in omega arith)
-      go h (some (seq a b)) i = other h (λ x j. let z : ◌≡◌ {A = ℕ} 0 1 = cc in omega arith)
-      go h (some (alt a b)) i = other h (λ x j. let z : ◌≡◌ {A = ℕ} 0 1 = cc in omega arith)
-      go h (some (many a)) i = other h (λ x j. let z : ◌≡◌ {A = ℕ} 0 1 = cc in omega arith)
+      go h none i = other h (λ x j. cc)
+      go h (some empty) i = other h (λ x j. cc)
+      go h (some one_text) i = other h (λ x j. cc)
+      go h (some (named l d)) i = other h (λ x j. cc)
+      go h (some (any d)) i = other h (λ x j. cc)
+      go h (some (seq a b)) i = other h (λ x j. cc)
+      go h (some (alt a b)) i = other h (λ x j. cc)
+      go h (some (many a)) i = other h (λ x j. cc)
       go h (some (def a)) i = by_iff (one k) (by_iff (through_more s D k a i) (one_or h (f k a)))
 
   pub ends_or : (k q : ℕ) → Either (EndsBelow s k q)
@@ -87,29 +87,29 @@ module _ (s : Sheet) (w : WellFormed s) where
 
 -- Whether row p is a leaf of each kind.
 leaf_or : (s : Sheet) (p : ℕ) (o : Option Row) → at s p ≡ o → Either (TextAt s p) × (Either (NamedAt s p) × Either (AnyAt s p))
-leaf_or s p none i = (inr (λ z. let y : ◌≡◌ {A = ℕ} 0 1 = cc in omega arith), (inr (λ z. let q = z.2 in let y : ◌≡◌ {A = ℕ} 0 1 = cc in omega arith), inr (λ z. let q = z.1 in let y : ◌≡◌ {A = ℕ} 0 1 = cc in omega arith)))
-leaf_or s p (some empty) i = (inr (λ z. let y : ◌≡◌ {A = ℕ} 0 1 = cc in omega arith), (inr (λ z. let q = z.2 in let y : ◌≡◌ {A = ℕ} 0 1 = cc in omega arith), inr (λ z. let q = z.1 in let y : ◌≡◌ {A = ℕ} 0 1 = cc in omega arith)))
-leaf_or s p (some one_text) i = (inl i, (inr (λ z. let q = z.2 in let y : ◌≡◌ {A = ℕ} 0 1 = cc in omega arith), inr (λ z. let q = z.1 in let y : ◌≡◌ {A = ℕ} 0 1 = cc in omega arith)))
-leaf_or s p (some (named l d)) i = (inr (λ z. let y : ◌≡◌ {A = ℕ} 0 1 = cc in omega arith), (inl (l, d, i), inr (λ z. let q = z.1 in let y : ◌≡◌ {A = ℕ} 0 1 = cc in omega arith)))
-leaf_or s p (some (any d)) i = (inr (λ z. let y : ◌≡◌ {A = ℕ} 0 1 = cc in omega arith), (inr (λ z. let q = z.2 in let y : ◌≡◌ {A = ℕ} 0 1 = cc in omega arith), inl (d, i)))
-leaf_or s p (some (seq a b)) i = (inr (λ z. let y : ◌≡◌ {A = ℕ} 0 1 = cc in omega arith), (inr (λ z. let q = z.2 in let y : ◌≡◌ {A = ℕ} 0 1 = cc in omega arith), inr (λ z. let q = z.1 in let y : ◌≡◌ {A = ℕ} 0 1 = cc in omega arith)))
-leaf_or s p (some (alt a b)) i = (inr (λ z. let y : ◌≡◌ {A = ℕ} 0 1 = cc in omega arith), (inr (λ z. let q = z.2 in let y : ◌≡◌ {A = ℕ} 0 1 = cc in omega arith), inr (λ z. let q = z.1 in let y : ◌≡◌ {A = ℕ} 0 1 = cc in omega arith)))
-leaf_or s p (some (many a)) i = (inr (λ z. let y : ◌≡◌ {A = ℕ} 0 1 = cc in omega arith), (inr (λ z. let q = z.2 in let y : ◌≡◌ {A = ℕ} 0 1 = cc in omega arith), inr (λ z. let q = z.1 in let y : ◌≡◌ {A = ℕ} 0 1 = cc in omega arith)))
-leaf_or s p (some (def a)) i = (inr (λ z. let y : ◌≡◌ {A = ℕ} 0 1 = cc in omega arith), (inr (λ z. let q = z.2 in let y : ◌≡◌ {A = ℕ} 0 1 = cc in omega arith), inr (λ z. let q = z.1 in let y : ◌≡◌ {A = ℕ} 0 1 = cc in omega arith)))
+leaf_or s p none i = (inr (λ z. cc), (inr (λ z. let q = z.2 in cc), inr (λ z. let q = z.1 in cc)))
+leaf_or s p (some empty) i = (inr (λ z. cc), (inr (λ z. let q = z.2 in cc), inr (λ z. let q = z.1 in cc)))
+leaf_or s p (some one_text) i = (inl i, (inr (λ z. let q = z.2 in cc), inr (λ z. let q = z.1 in cc)))
+leaf_or s p (some (named l d)) i = (inr (λ z. cc), (inl (l, d, i), inr (λ z. let q = z.1 in cc)))
+leaf_or s p (some (any d)) i = (inr (λ z. cc), (inr (λ z. let q = z.2 in cc), inl (d, i)))
+leaf_or s p (some (seq a b)) i = (inr (λ z. cc), (inr (λ z. let q = z.2 in cc), inr (λ z. let q = z.1 in cc)))
+leaf_or s p (some (alt a b)) i = (inr (λ z. cc), (inr (λ z. let q = z.2 in cc), inr (λ z. let q = z.1 in cc)))
+leaf_or s p (some (many a)) i = (inr (λ z. cc), (inr (λ z. let q = z.2 in cc), inr (λ z. let q = z.1 in cc)))
+leaf_or s p (some (def a)) i = (inr (λ z. cc), (inr (λ z. let q = z.2 in cc), inr (λ z. let q = z.1 in cc)))
 
 -- The definition at a row, if it is one of this number.
 defines_or : (s : Sheet) (d e : ℕ) → Either ((x : ℕ) × Defines s d e x)
 defines_or s d e = go (at s e) refl (number_or (definitions (take e s)) d)
   where
     go : (o : Option Row) → at s e ≡ o → Either (definitions (take e s) ≡ d) → Either ((x : ℕ) × Defines s d e x)
-    go none i h = inr (λ z. let q = z.1.is in let y : ◌≡◌ {A = ℕ} 0 1 = cc in omega arith)
-    go (some empty) i h = inr (λ z. let q = z.1.is in let y : ◌≡◌ {A = ℕ} 0 1 = cc in omega arith)
-    go (some one_text) i h = inr (λ z. let q = z.1.is in let y : ◌≡◌ {A = ℕ} 0 1 = cc in omega arith)
-    go (some (named l c)) i h = inr (λ z. let q = z.1.is in let y : ◌≡◌ {A = ℕ} 0 1 = cc in omega arith)
-    go (some (any c)) i h = inr (λ z. let q = z.1.is in let y : ◌≡◌ {A = ℕ} 0 1 = cc in omega arith)
-    go (some (seq a b)) i h = inr (λ z. let q = z.1.is in let y : ◌≡◌ {A = ℕ} 0 1 = cc in omega arith)
-    go (some (alt a b)) i h = inr (λ z. let q = z.1.is in let y : ◌≡◌ {A = ℕ} 0 1 = cc in omega arith)
-    go (some (many a)) i h = inr (λ z. let q = z.1.is in let y : ◌≡◌ {A = ℕ} 0 1 = cc in omega arith)
+    go none i h = inr (λ z. let q = z.1.is in cc)
+    go (some empty) i h = inr (λ z. let q = z.1.is in cc)
+    go (some one_text) i h = inr (λ z. let q = z.1.is in cc)
+    go (some (named l c)) i h = inr (λ z. let q = z.1.is in cc)
+    go (some (any c)) i h = inr (λ z. let q = z.1.is in cc)
+    go (some (seq a b)) i h = inr (λ z. let q = z.1.is in cc)
+    go (some (alt a b)) i h = inr (λ z. let q = z.1.is in cc)
+    go (some (many a)) i h = inr (λ z. let q = z.1.is in cc)
     go (some (def a)) i (inl q) = inl (a, record { is = i; number = q })
     go (some (def a)) i (inr n) = inr (λ z. n z.1.number)
 
@@ -150,8 +150,8 @@ told_table {s} {t} f u =
 
 side_or : (k k' : Side) → Either (k ≡ k')
 side_or first first = inl refl
-side_or first second = inr (λ q. let z : ◌≡◌ {A = ℕ} 0 1 = cc in omega arith)
-side_or second first = inr (λ q. let z : ◌≡◌ {A = ℕ} 0 1 = cc in omega arith)
+side_or first second = inr (λ q. cc)
+side_or second first = inr (λ q. cc)
 side_or second second = inl refl
 
 pub formed : {s : Sheet} → ∥ Sound s ∥₁ → WellFormed s

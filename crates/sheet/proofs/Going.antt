@@ -33,13 +33,13 @@ moved body at next e w f = (
     within (t ∷ ts) h = h.2.inside
 
 no_chars : {t : List ℕ} {l : ℕ} → opening l ≡ chars t → ⊥
-no_chars h = let z : ◌≡◌ {A = ℕ} 0 1 = cc in omega arith
+no_chars h = cc
 
 no_close_chars : {t : List ℕ} → closing ≡ chars t → ⊥
-no_close_chars h = let z : ◌≡◌ {A = ℕ} 0 1 = cc in omega arith
+no_close_chars h = cc
 
 no_close_opening : {l : ℕ} → closing ≡ opening l → ⊥
-no_close_opening h = let z : ◌≡◌ {A = ℕ} 0 1 = cc in omega arith
+no_close_opening h = cc
 
 same_label : {l k : ℕ} → opening l ≡ opening k → k ≡ l
 same_label h = cc

@@ -1,17 +1,18 @@
 -- Shapes and tables of an expression, from those of its parts.
-use Rattle.std.proofs.Common.{◌≡◌, ℕ, zero, suc, ◌/◌, ◌%◌, ◌^◌, ◌<◌, Bool, true, false, cond, ◌&&◌, ◌||◌, T, ◌⊎◌, ◌↔◌, List, get_or, take, sym, subst, inl, inr, pow-suc, arith, pow_pos}
+use Rattle.std.proofs.Common.{◌≡◌, ℕ, zero, suc, ◌/◌, ◌^◌, ◌<◌, Bool, true, false, cond, ◌&&◌, ◌||◌, T, ◌⊎◌, ◌↔◌, List, length, get_or, take, ap, ◌∙◌, subst, inl, inr, pow-suc, arith, pow_pos}
 use mathlib.Core.Logic.Iff
 use mathlib.Core.Option.{Option, some}
 use lib.Bits.{bit_or}
-use Rattle.rows.specs.Sheet.{Sheet, at, Leaf, leaf_text, leaf_named, leaf_any, places}
+use Rattle.rows.specs.Sheet.{Sheet, at, Leaf, leaf_text, leaf_named, leaf_any, places, seq_first, seq_second, alt_first, alt_second, many_part, def_part}
 use Rattle.rows.specs.declared.row.Row.{Row}
 use Rattle.rows.specs.declared.row.Row.TheVariants.{Empty as empty, Text as one_text, Named as named, Any as any, Seq as seq, Alt as alt, Many as many, Def as def}
 use Rattle.sheet.specs.Standing.{Bit, SetOf}
-use Rattle.rows.specs.Steps.{Nullable, Opens, Closes, Next}
+use Rattle.rows.specs.Steps.{Nullable, Opens, Closes, Next, WellFormed}
 use Rattle.rows.specs.Parts.{KeptBelow}
 use Rattle.sheet.specs.Shapes.{Shape, Shaped, Grown}
-use Rattle.sheet.proofs.Bits.{no_bit, bit_halves, same_bits}
-use Rattle.rows.proofs.Numbers.{numbered_leaf}
+use Rattle.sheet.proofs.Bits.{no_bit, same_bits}
+use Rattle.std.proofs.lemmas.Nat.Bits.{bit_at-suc}
+use Rattle.rows.proofs.Numbers.{numbered_leaf, at_get_or}
 use Rattle.sheet.proofs.PlaceSets.{set_none, set_one, set_same, set_or}
 use Rattle.sheet.proofs.Compute.{and_iff, or_iff}
 use Rattle.sheet.proofs.Rows.{OpensRow, opens_row, opens_from, ClosesRow, closes_row, closes_from, NullableRow, nullable_row, nullable_from, NextRow, next_row, next_from}
@@ -24,7 +25,7 @@ bits_bound (suc n) zero m h f =
     omega arith
 bits_bound (suc n) (suc k) m h f =
     let r = bits_bound n k (m / 2) (omega (arith, pow-suc 2 n))
-    (λ i b. let c = f (suc i) (subst (λ (x : ℕ). x % 2 ≡ 1) (sym (bit_halves i m)) b) in omega arith) in
+    (λ i b. let c = f (suc i) (bit_at-suc m i ∙ b) in omega arith) in
     omega (arith, pow-suc 2 k)
 
 -- Tables that grow.
@@ -207,3 +208,16 @@ shape_def {s} {a} e x i u = shape_row e (def a) x i u.empty u.opening u.closing
 pub grown_def : {s : Sheet} {a : ℕ} {t₀ t₁ : List ℕ} (e : ℕ) → at s e ≡ some (def a)
     → Grown s t₀ t₁ (λ q p. Next s q p a) → Grown s t₀ t₁ (λ q p. Next s q p e)
 grown_def {s} {a} e i g = grown_row e (def a) i g
+
+-- The parts of a row stand below it.
+pub seq_below : {s : Sheet} {e a b : ℕ} → WellFormed s → e < length s → get_or s e empty ≡ seq a b → (a < e) × (b < e)
+seq_below {s} {e} w h q = let i = at_get_or s e empty h ∙ ap some q in (w.lower (seq_first i), w.lower (seq_second i))
+
+pub alt_below : {s : Sheet} {e a b : ℕ} → WellFormed s → e < length s → get_or s e empty ≡ alt a b → (a < e) × (b < e)
+alt_below {s} {e} w h q = let i = at_get_or s e empty h ∙ ap some q in (w.lower (alt_first i), w.lower (alt_second i))
+
+pub many_below : {s : Sheet} {e a : ℕ} → WellFormed s → e < length s → get_or s e empty ≡ many a → a < e
+many_below {s} {e} w h q = w.lower (many_part (at_get_or s e empty h ∙ ap some q))
+
+pub def_below : {s : Sheet} {e a : ℕ} → WellFormed s → e < length s → get_or s e empty ≡ def a → a < e
+def_below {s} {e} w h q = w.lower (def_part (at_get_or s e empty h ∙ ap some q))

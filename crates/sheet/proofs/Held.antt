@@ -38,7 +38,7 @@ empty_fit zero k a x = elim (part_row x) [ ]
 empty_fit (suc zero) k a x =
     let z = part_row x in
     let q = z.1 in
-    (omega arith, λ y i. let r = subst (λ (n : ℕ). at only_empty n ≡ some (def y)) q i in let w : ◌≡◌ {A = ℕ} 0 1 = cc in omega arith)
+    (omega arith, λ y i. let r = subst (λ (n : ℕ). at only_empty n ≡ some (def y)) q i in cc)
 empty_fit (suc (suc e)) k a x = elim (part_row x) [ ]
 
 empty_only : (e : ℕ) (k : Side) → PartRow k 0 (at only_empty e) → (e ≡ 1) × (k ≡ first)
@@ -57,9 +57,9 @@ empty_names (suc zero) d n = elim (names_row n) [ ]
 empty_names (suc (suc p)) d n = elim (names_row n) [ ]
 
 empty_label : (e l d : ℕ) → at only_empty e ≡ some (named l d) → ⊥
-empty_label zero l d i = let w : ◌≡◌ {A = ℕ} 0 1 = cc in omega arith
-empty_label (suc zero) l d i = let w : ◌≡◌ {A = ℕ} 0 1 = cc in omega arith
-empty_label (suc (suc e)) l d i = let w : ◌≡◌ {A = ℕ} 0 1 = cc in omega arith
+empty_label zero l d i = cc
+empty_label (suc zero) l d i = cc
+empty_label (suc (suc e)) l d i = cc
 
 pub empty_sound : Sound only_empty
 empty_sound =

@@ -27,7 +27,7 @@ linear w (up x i) (up y j) = linear w i (rw (w.once y x).0 at j)
 
 -- Two parts of one row hold no row in common.
 sides : first ≡ second → ⊥
-sides h = let z : ◌≡◌ {A = ℕ} 0 1 = cc in omega arith
+sides h = cc
 
 pub within_other : {s : Sheet} {e a b : ℕ} {k k' : Side}
     → WellFormed s → (k ≡ k' → ⊥) → Part s e k a → Part s e k' b → Inside s a b → ⊥

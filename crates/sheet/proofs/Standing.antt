@@ -1,4 +1,4 @@
-use Rattle.std.proofs.Common.{◌≡◌, ℕ, ◌⊎◌, List, sym, refl, ap, inl, inr, arith}
+use Rattle.std.proofs.Common.{◌≡◌, ℕ, ◌⊎◌, List, sym, refl, ap, inl, inr}
 use mathlib.Core.Option.{Option, none, some}
 use Rattle.forest.specs.Forest.{Forest, nil, text, node}
 use Rattle.sheet.specs.Standing.{Tree}
@@ -10,22 +10,12 @@ use Rattle.sheet.specs.Meaning.{Admits, of_empty, of_text, of_named, of_any, of_
 use Rattle.rows.specs.Sheet.{Leaf, leaf_text, leaf_named, leaf_any}
 use Rattle.sheet.specs.Meaning.{Follows}
 use Rattle.rows.specs.Steps.{WellFormed}
-use Rattle.rows.specs.Steps.{Opens, opens_itself, opens_seq_first, opens_seq_second, opens_alt_first, opens_alt_second, opens_many, opens_def}
 use Rattle.sheet.specs.Meaning.{Belongs, MayFollow}
 use Rattle.sheet.proofs.Laws.{StandingOfNil, StandingOfTree, LeafFits}
 use Rattle.sheet.proofs.Inside.{Inside, same, up, above, linear, opens_inside, follows_inside, next_inside}
 use Rattle.sheet.proofs.Backwards.{null_admits, closes_follows, opens_admits, next_follows}
 use Rattle.sheet.proofs.Forwards.{starts, continues}
 use Rattle.sheet.proofs.KeyLemma.{first_of, next_of}
-
-pub opens_leaf : {s : Sheet} {p e : ℕ} → Opens s p e → Leaf s p
-opens_leaf (opens_itself l) = l
-opens_leaf (opens_seq_first i o) = opens_leaf o
-opens_leaf (opens_seq_second i n o) = opens_leaf o
-opens_leaf (opens_alt_first i o) = opens_leaf o
-opens_leaf (opens_alt_second i o) = opens_leaf o
-opens_leaf (opens_many i o) = opens_leaf o
-opens_leaf (opens_def i o) = opens_leaf o
 
 -- A row stands inside one definition at most.
 top : {s : Sheet} {e e' x : ℕ} → WellFormed s → at s e ≡ some (def x) → Inside s e e' → e ≡ e'
@@ -71,7 +61,7 @@ leaf_row (of_many_more i x y) = rw i tt
 leaf_row (of_def i x) = rw i tt
 
 no_text : {b : List ℕ} {l : ℕ} {c f g : Forest} → text b f ≡ node l c g → ⊥
-no_text h = let z : ◌≡◌ {A = ℕ} 0 1 = cc in omega arith
+no_text h = cc
 
 abbrev Fitting : Sheet → ℕ → ℕ → Forest → Type 0
 Fitting s p l c = ((d : ℕ) × (at s p ≡ some (named l d)) × Belongs s d c) ⊎ ((d : ℕ) × (at s p ≡ some (any d)) × Belongs s d c)

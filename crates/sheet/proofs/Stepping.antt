@@ -38,9 +38,9 @@ gathered {s} {m} {t} {P} {R} r x y places_of h f =
 
 -- A definition is no leaf.
 leaf_apart : {s : Sheet} {p x : ℕ} → Leaf s p → at s p ≡ some (def x) → ⊥
-leaf_apart (leaf_text i) j = let z : ◌≡◌ {A = ℕ} 0 1 = cc in omega arith
-leaf_apart (leaf_named i) j = let z : ◌≡◌ {A = ℕ} 0 1 = cc in omega arith
-leaf_apart (leaf_any i) j = let z : ◌≡◌ {A = ℕ} 0 1 = cc in omega arith
+leaf_apart (leaf_text i) j = cc
+leaf_apart (leaf_named i) j = cc
+leaf_apart (leaf_any i) j = cc
 
 follows_leaf : {s : Sheet} {p e : ℕ} {h : Forest} → Follows s p e h → Leaf s p
 follows_leaf (itself l) = l

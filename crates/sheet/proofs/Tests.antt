@@ -1,10 +1,9 @@
 -- The same four relations as tests that compute, the row number falling.
-use Rattle.std.proofs.Common.{ℕ, zero, suc, Bool, true, false, ◌&&◌, ◌||◌, T, eqb, ◌↔◌}
+use Rattle.std.proofs.Common.{ℕ, zero, suc, Bool, true, false, ◌&&◌, ◌||◌, eqb}
 use mathlib.Core.Option.{Option, none, some}
 use Rattle.rows.specs.Sheet.{Sheet, at}
 use Rattle.rows.specs.declared.row.Row.{Row}
 use Rattle.rows.specs.declared.row.Row.TheVariants.{Empty as empty, Text as one_text, Named as named, Any as any, Seq as seq, Alt as alt, Many as many, Def as def}
-use Rattle.rows.specs.Steps.{Nullable, Opens, Closes, Next}
 
 -- A test of a row from the same test of its parts, which stand below it.
 abbrev pub Step : Type 0
@@ -72,9 +71,3 @@ next_step last lead f e (some (def a)) = f a
 
 unfoldable pub following : Sheet → ℕ → ℕ → ℕ → Bool
 following s q p = by_rows (next_step (closing s q) (opening s p)) s
-
-pub record Computed (s : Sheet) (e : ℕ) : Type 0 where
-  pub is_nullable : T (nullable s e) ↔ Nullable s e
-  pub is_opening : (p : ℕ) → T (opening s p e) ↔ Opens s p e
-  pub is_closing : (q : ℕ) → T (closing s q e) ↔ Closes s q e
-  pub is_following : (q p : ℕ) → T (following s q p e) ↔ Next s q p e

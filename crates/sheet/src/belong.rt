@@ -1,16 +1,14 @@
 //! Whether a record belongs to a sheet.
 
-ghost use Rattle.std.specs.Prelude.{◌≡◌, ◌≤◌, T, ◌↔◌};
+ghost use Rattle.std.specs.Prelude.{◌≡◌, ◌≤◌};
 ghost use Rattle.sheet.specs.Belonging.{Belonging, GoneThrough};
-ghost use Rattle.forest.specs.Forest.{Forest};
-ghost use Rattle.forest.specs.Reading.{StandsFor};
 ghost use Rattle.sheet.specs.Held.{rows_of};
-ghost use Rattle.sheet.specs.Meaning.{OfSheet};
 
 use super::sound::SoundSheet;
 use forest::{Event, Events, Fault, Record};
 
 /// The standing of the forest that the events come to next, up to its end: the first tree before the standing of the rest.
+#[tactic(auto, using(crate::proofs::Going::moved))]
 fn standing(sheet: &SoundSheet, events: &mut Events) -> u64
     ensures same { events.new.body.now ≡ events.old.body.now }
     ensures onward { events.old.at ≤ events.new.at }

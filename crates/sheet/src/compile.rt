@@ -1,6 +1,6 @@
 //! Working out the tables of a sheet.
 
-ghost use Rattle.std.specs.Prelude.{◌≡◌, ℕ, ◌≤◌, length, slice_index};
+ghost use Rattle.std.specs.Prelude.{◌≡◌, ℕ, length, slice_index};
 ghost use Rattle.sheet.specs.Compiled.{AnyAt, Compiled, Homes, Labels, NamedAt, Tabled, TextAt};
 ghost use Rattle.sheet.specs.Shapes.{EndsAt, EndsBelow, Grown, Holds, LeadsAt, LeadsBelow};
 ghost use Rattle.rows.specs.Sheet.{at};
@@ -13,10 +13,12 @@ use super::sets::{bit, link};
 use super::tables::Tables;
 use rows::Row;
 
+// The loops over the rows go by index, since a row's number is what its place is looked up by.
+
 impl<'a> NumberedRows<'a> {
     /// What the definition at row `e` with expression `x` adds to `before`, and the places after which it can end.
-    fn define(self, e: usize, x: usize, before: &mut [u64]) -> u64
-        requires { (at self.rows.now e ≡ some (def x)) × (length before.old ≡ 64) }
+    fn define(self, e: usize, x: usize, before: &mut [u64; 64]) -> u64
+        requires { at self.rows.now e ≡ some (def x) }
         ensures ends { SetOf self.entry.rows.now result (EndsAt self.entry.rows.now e x) }
         ensures grown { Grown self.entry.rows.now before.old before.new (LeadsAt self.entry.rows.now e x) }
     {
@@ -31,8 +33,8 @@ impl<'a> NumberedRows<'a> {
     }
 
     /// What all definitions add to `before`, and the places after which one can end.
-    fn define_all(self, before: &mut [u64]) -> u64
-        requires { (length before.old ≡ 64) × (((j : ℕ) → slice_index before.old j ≡ 0)) }
+    fn define_all(self, before: &mut [u64; 64]) -> u64
+        requires { (j : ℕ) → slice_index before.old j ≡ 0 }
         ensures ends { SetOf self.entry.rows.now result (EndsBelow self.entry.rows.now (length self.entry.rows.now)) }
         ensures before { Tabled self.entry.rows.now before.new (LeadsBelow self.entry.rows.now (length self.entry.rows.now)) }
     {
@@ -66,8 +68,7 @@ impl<'a> NumberedRows<'a> {
     }
 
     /// The labels of the leaves that have one.
-    fn fill_labels(self, labels: &mut [u16])
-        requires { length labels.old ≡ 64 }
+    fn fill_labels(self, labels: &mut [u16; 64])
         ensures { Labels self.entry.rows.now (length self.entry.rows.now) labels.new }
     {
         for (p, row) in self.rows.iter().enumerate() {
@@ -78,11 +79,12 @@ impl<'a> NumberedRows<'a> {
     }
 
     /// The places of the definitions.
-    fn fill_homes(self, homes: &mut [u8])
-        requires { length homes.old ≡ 64 }
+    fn fill_homes(self, homes: &mut [u8; 64])
         ensures { Homes self.entry.rows.now homes.new }
     {
-        // Counted by hand and written by index, since a proof knows no element that was written through `iter_mut`.
+        // Counted by hand: tried `for (d, (_, number)) in rows.iter().zip(numbers).filter(..).enumerate()`, where a proof
+        // lacks that `d` stays below 64, and at the end that the items were the definitions, each at its number.
+        // Written by index, since a proof knows no element that was written through `iter_mut`.
         let mut count: usize = 0;
         for (e, row) in self.rows.iter().enumerate() {
             if row.is_definition() {
@@ -93,9 +95,9 @@ impl<'a> NumberedRows<'a> {
     }
 
     /// The leaves that have each definition as their content.
-    fn fill_holders(self, homes: &[u8], holders: &mut [u64])
-        requires homes { (Homes self.rows.now homes.now) × (length homes.now ≡ 64) }
-        requires none { (length holders.old ≡ 64) × (((j : ℕ) → slice_index holders.old j ≡ 0)) }
+    fn fill_holders(self, homes: &[u8; 64], holders: &mut [u64; 64])
+        requires homes { Homes self.rows.now homes.now }
+        requires none { (j : ℕ) → slice_index holders.old j ≡ 0 }
         ensures { Tabled self.entry.rows.now holders.new (Holds self.entry.rows.now) }
     {
         for (p, row) in self.rows.iter().enumerate() {

@@ -47,8 +47,9 @@ fn either(a: Shape, b: Shape) -> Shape
 
 impl<'a> NumberedRows<'a> {
     /// The shape of row `e`; for each leaf, the leaves that it can come right after in that row are added to `before`.
-    pub fn expression(self, e: usize, before: &mut [u64]) -> Shape
-        requires { (e < length self.rows.now) × (length before.old ≡ 64) }
+    #[tactic(auto, using(crate::proofs::Growing::seq_below, crate::proofs::Growing::alt_below, crate::proofs::Growing::many_below, crate::proofs::Growing::def_below))]
+    pub fn expression(self, e: usize, before: &mut [u64; 64]) -> Shape
+        requires { e < length self.rows.now }
         ensures shaped { Shaped self.entry.rows.now e result }
         ensures grown { Grown self.entry.rows.now before.old before.new (λ q p. Next self.entry.rows.now q p e) }
     {

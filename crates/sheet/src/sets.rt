@@ -1,6 +1,6 @@
 //! Sets of places as numbers, their members walked by trailing zeros.
 
-ghost use Rattle.std.specs.Prelude.{◌≡◌, ℕ, ◌^◌, ◌<◌, ◌⊎◌, ◌↔◌, length, slice_index};
+ghost use Rattle.std.specs.Prelude.{◌≡◌, ℕ, ◌^◌, ◌<◌, ◌⊎◌, ◌↔◌, slice_index};
 ghost use Rattle.std.specs.Iterator.{at_most};
 ghost use Rattle.rows.specs.Parts.{KeptBelow};
 ghost use Rattle.sheet.specs.Standing.{Bit, Walked};
@@ -35,8 +35,7 @@ pub fn bit(number: u8) -> u64
 }
 
 /// The union of what the table has for each member of `set`.
-pub fn gather(table: &[u64], set: u64) -> u64
-    requires { length table.now ≡ 64 }
+pub fn gather(table: &[u64; 64], set: u64) -> u64
     ensures { (i : ℕ) → Bit i result ↔ ((j : ℕ) × Bit j set × Bit i (slice_index table.now j)) }
 {
     let mut all = 0;
@@ -47,8 +46,7 @@ pub fn gather(table: &[u64], set: u64) -> u64
 }
 
 /// Adds the members of `from` to what the table has for each member of `to`.
-pub fn link(table: &mut [u64], from: u64, to: u64)
-    requires { length table.old ≡ 64 }
+pub fn link(table: &mut [u64; 64], from: u64, to: u64)
     ensures bound { KeptBelow from table.old table.new }
     ensures bits { (i j : ℕ) → Bit i (slice_index table.new j) ↔ (Bit i (slice_index table.old j) ⊎ (Bit j to × Bit i from)) }
 {
@@ -58,8 +56,7 @@ pub fn link(table: &mut [u64], from: u64, to: u64)
 }
 
 /// The members of `set` that the table has `label` for.
-pub fn pick(table: &[u16], set: u64, label: u16) -> u64
-    requires { length table.now ≡ 64 }
+pub fn pick(table: &[u16; 64], set: u64, label: u16) -> u64
     ensures { (i : ℕ) → Bit i result ↔ (Bit i set × (slice_index table.now i ≡ label)) }
 {
     let mut all = 0;

@@ -1,6 +1,8 @@
 //! What a sound sheet holds beside its rows, so that a standing is worked out by a few steps.
 
 /// The tables of a sheet. Sets are sets of places, lists have an element for each place.
+///
+/// Three lists beside one another, since each is walked by itself, by `gather` or by `pick`.
 #[derive(Clone, Copy)]
 pub struct Tables {
     /// The standing of the empty forest.

@@ -115,6 +115,7 @@ fn whole(rt: &impl Print) -> io::Result<()> {
 fn many(rt: &impl Print, count: u8, missing: Option<u8>) -> io::Result<()> {
     let mut body = [0u8; 512];
     let count = count.min(64);
+    // By index: in a walk of `(0..count).zip(body.chunks_exact_mut(8))` a proof lacks that `2 * i` fits a byte.
     for i in 0..count {
         let at = 8 * usize::from(i);
         body[at] = 1;

@@ -20,6 +20,7 @@ pub struct Span {
 }
 
 /// At most `N` lists, each right after the one before, in the first `limit` items of the memory.
+// The spans are an array with a count, since nothing is allocated.
 #[derive(Drop)]
 pub struct Store<T, const N: usize> {
     memory: Vec<T>,

@@ -7,9 +7,6 @@ use Rattle.stream.specs.Written.{hex, hex_digit}
 use Rattle.stream.specs.Writing.{Adds, text_of}
 use Rattle.stream.specs.declared.buffer.LineBuffer.{LineBuffer}
 
-pub adds_nothing : (v : LineBuffer) → Adds v [] v
-adds_nothing v = record { counts = omega arith; text = sym (append-nil (text_of v)) }
-
 pub adds_more : {u v w : LineBuffer} {s r : List ℕ} → Adds u s v → Adds v r w → Adds u (s ++ r) w
 adds_more {u} {v} {w} {s} {r} a b = record {
   counts = simp length-append (omega arith);

@@ -2,10 +2,14 @@
 ghost use Rattle.std.specs.Prelude.{◌≡◌, ℕ, ◌+◌, ◌-◌, ◌*◌, ◌<◌, ◌≤◌, List, ◌∷◌, [], length, take, drop, replicate, decimal};
 ghost use Rattle.stream.specs.Written.{hex, hex_digit};
 
+/// The most bytes of a line's text.
+const LONGEST: usize = 8320;
+
 /// A line's text in the first `count` bytes, and 0 in the others.
+// An array with its count: a line is made in fixed memory.
 #[derive(Clone, Copy)]
 pub struct LineBuffer {
-    line: [u8; 8320],
+    line: [u8; LONGEST],
     count: usize,
     ghost within: { count ≤ 8320 },
     ghost blank: { drop count line ≡ replicate (8320 - count) 0 },
@@ -29,7 +33,7 @@ impl LineBuffer {
         ensures { (result.line ≡ replicate 8320 0) × (result.count ≡ 0) }
     {
         LineBuffer {
-            line: [0; 8320],
+            line: [0; LONGEST],
             count: 0,
         }
     }
@@ -78,6 +82,7 @@ impl LineBuffer {
         if n >= 10 {
             self.digits(n / 10);
         }
+        // By `as`: one digit fits.
         self.byte(b'0' + (n % 10) as u8);
     }
 

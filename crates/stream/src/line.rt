@@ -11,6 +11,9 @@ use loss::Loss;
 /// The most bytes of a lost record that a line shows.
 const MOST_SHOWN: usize = 4096;
 
+/// The number of the refusal of a sheet that would lose a record, which no fault has.
+const LOSS: usize = 36;
+
 /// What became of an entry.
 #[derive(Clone, Copy, PartialEq, Eq, Debug)]
 pub enum Line {
@@ -23,7 +26,7 @@ pub enum Line {
     Lost(Loss<u32>),
 }
 
-/// Adds the bytes of a lost record.
+/// Adds the bytes of a lost record: `-` where there are none, and `not shown` where there are too many.
 fn add_bytes(buffer: &mut LineBuffer, bytes: &[u8])
     requires { HasRoom buffer.old 8193 }
     ensures { Adds buffer.old (0x20 ∷ shown (loss bytes.now)) buffer.new }
@@ -38,12 +41,13 @@ fn add_bytes(buffer: &mut LineBuffer, bytes: &[u8])
     }
 }
 
-/// Adds the bytes of a lost record, if it is shown.
+/// Adds the bytes of a lost record as above if it is shown, and else `not shown`.
 fn add_loss(buffer: &mut LineBuffer, loss: &Loss<u32>, show: &[u8])
     requires { HasRoom buffer.old 8193 }
     ensures { Adds buffer.old (0x20 ∷ shown (loss_if loss.now.shown loss.now.length show.now)) buffer.new }
 {
     if loss.shown {
+        // By `as`: there is no `From` between a `u32` and a `usize`.
         let end = show.len().min(loss.length as usize);
         add_bytes(buffer, &show[..end]);
     } else {
@@ -74,7 +78,8 @@ impl Line {
             }
             Line::Lost(loss) => {
                 buffer.word(b"refused");
-                buffer.number(36);
+                buffer.number(LOSS);
+                // By `as`: there is no `From` between a `u32` and a `usize`.
                 buffer.number(loss.cost as usize);
                 buffer.number(loss.length as usize);
                 add_loss(buffer, loss, show);

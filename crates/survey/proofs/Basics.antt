@@ -1,5 +1,5 @@
 -- Small facts about settings and entries.
-use Rattle.std.proofs.Common.{◌≡◌, ℕ, ◌+◌, ◌<◌, ◌≤◌, Bool, true, false, ◌≢◌, ◌⊎◌, sym, refl, ap, ◌∙◌, subst, inl, inr, arith}
+use Rattle.std.proofs.Common.{◌≡◌, ℕ, ◌+◌, ◌<◌, ◌≤◌, ◌≢◌, ◌⊎◌, sym, refl, ap, ◌∙◌, subst, inl, inr, arith}
 use Rattle.survey.specs.declared.types.Standings.{Standings}
 use Rattle.survey.specs.declared.types.Sort.{Sort}
 use Rattle.forest.specs.Forest.{Forest}
@@ -9,14 +9,8 @@ use Rattle.survey.specs.Steps.{Covered, Covering, Formed, Grown, Kept, Sound, as
 pub same_or_not : (k i : ℕ) → (k ≡ i) ⊎ (k ≢ i)
 same_or_not k i = grind arith
 
-pub below_or_not : (k i : ℕ) → (k < i) ⊎ (i ≤ k)
-below_or_not k i = grind arith
-
 pub below_or_at : (k i : ℕ) → k < i + 1 → (k < i) ⊎ (k ≡ i)
 below_or_at k i h = grind arith
-
-pub differ : {b : Bool} → b ≡ true → b ≡ false → ⊥
-differ p q = let z : ◌≡◌ {A = ℕ} 0 1 = cc in omega arith
 
 module _ {C : Type 0} {Γ : Setting C} (so : Sound Γ) where
   pub le_self : (a : C) → Γ.good a → Γ.le a a

@@ -1,11 +1,11 @@
 -- What a closed list says of every forest.
 use Rattle.std.proofs.Common.{◌≡◌, ℕ, zero, suc, ◌<◌, ◌≤◌, ◌⊎◌, [], length, Some, sym, refl, ap, ◌∙◌, inl, inr, arith}
+use Rattle.std.proofs.lemmas.Bool.{cases_lt}
 use Rattle.forest.specs.Forest.{Forest, nil, text, node, Label}
 use Rattle.measure.specs.Measure.{cost_of}
 use Rattle.measure.proofs.Costs.{cost_good}
 use Rattle.survey.specs.declared.types.Standings.{Standings}
 use Rattle.survey.specs.declared.types.Sort.{Sort}
-use Rattle.survey.proofs.Basics.{below_or_not}
 use Rattle.survey.specs.Sorting.{TextSort}
 use Rattle.survey.specs.Survey.{Covers, Rebuilt, Setting, Stands, Surveyed, TooMany, built_nil, built_node, built_text}
 use Rattle.measure.specs.Lengths.{length_of}
@@ -105,7 +105,7 @@ module _ {C : Type 0} {Γ : Setting C} (so : Sound Γ) where
     parts = attained e done kept.settled
 
     stands_at : (k : ℕ) → k < len → (f : Forest) × Stands Γ (e k) f
-    stands_at k h = elim (below_or_not k done) [ inl lt ↦ (let z = parts k lt in (z.0, z.2)) | inr ge ↦ form_stands e done (e k) parts (kept.tentative k ge h) ]
+    stands_at k h = elim (cases_lt k done) [ inl lt ↦ (let z = parts k lt in (z.0, z.2)) | inr ge ↦ form_stands e done (e k) parts (kept.tentative k ge h) ]
 
     last : (f : Forest) × Stands Γ x f
     last = form_stands e done x parts formed
@@ -119,7 +119,7 @@ module _ {C : Type 0} {Γ : Setting C} (so : Sound Γ) where
       pub which : ((k < len) × (sort ≡ (e k).standings)) ⊎ ((len ≤ k) × (sort ≡ x.standings))
 
     one : (k : ℕ) → One k
-    one k = go (below_or_not k len)
+    one k = go (cases_lt k len)
       where
         go : (k < len) ⊎ (len ≤ k) → One k
         go (inl lt) = let z = stands_at k lt in record { forest = z.0; sort = (e k).standings; counted = z.1.counts; is = z.1.sort; which = inl (lt, refl) }

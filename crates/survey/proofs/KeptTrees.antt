@@ -1,5 +1,6 @@
 -- The kept trees over the steps of a survey.
 use Rattle.std.proofs.Common.{◌≡◌, ℕ, ◌+◌, ◌<◌, ◌≤◌, Bool, true, false, ◌&&◌, ◌⊎◌, List, [], ◌∷◌, ◌++◌, length, Ok, sym, refl, ap, ◌∙◌, subst, inl, inr, arith, slice_index}
+use Rattle.std.proofs.lemmas.Bool.{both_ways, and_parts, cases_lt}
 use Rattle.std.proofs.lemmas.List.{get_or_append_left, length-append}
 use Rattle.std.proofs.Math.Seq.{get_or-append_seam}
 use Rattle.forest.specs.Forest.{Forest, nil, text, node}
@@ -10,7 +11,7 @@ use Rattle.survey.specs.Sorting.{NodeLeaves}
 use Rattle.survey.specs.Survey.{Setting, entry}
 use Rattle.survey.specs.Steps.{Covering, Grown, Kept, NodeOver, NodesAround, Sound, TextCovered, Texted, TreeCovered, node_cost}
 use Rattle.survey.specs.KeptTrees.{no_tree, tree_at, OverEntry, Joined, NodesCovered, Trees, Alike, Met, Table, TreeTable, Before, Beyond, Fresh, Stepped, Around}
-use Rattle.survey.proofs.Basics.{differ, below_or_not, below_or_at, covering_on, le_self, le_at, grown_trans, grown_none}
+use Rattle.survey.proofs.Basics.{below_or_at, covering_on, le_self, le_at, grown_trans, grown_none}
 use Rattle.survey.proofs.Loops.{grown_cap, good_old, node_good, covered_node, covered_tree}
 
 tree_before : (ts : List Tree) (x : Tree) (t : ℕ) → t < length ts → tree_at (ts ++ x ∷ []) t ≡ tree_at ts t
@@ -18,10 +19,6 @@ tree_before ts x t lt = get_or_append_left ts (x ∷ []) no_tree t lt
 
 tree_last : (ts : List Tree) (x : Tree) → tree_at (ts ++ x ∷ []) (length ts) ≡ x
 tree_last ts x = get_or-append_seam ts x [] no_tree
-
-both : (a b : Bool) → (a && b) ≡ true → (a ≡ true) × (b ≡ true)
-both true b h = (refl, h)
-both false b h = absurd (differ h refl)
 
 module _ {C : Type 0} {Γ : Setting C} where
   pub over_move : (e e' : ℕ → Sort C) (lim lim' : ℕ) (t : Tree) → lim ≤ lim' → ((k : ℕ) → k < lim → e' k ≡ e k) → OverEntry Γ e lim t → OverEntry Γ e' lim' t
@@ -210,7 +207,7 @@ module _ {C : Type 0} {Γ : Setting C} (so : Sound Γ) where
     all_nodes i k hi hk = (over i k hi hk, go (below_or_at k last hk))
       where
         go : (k < last) ⊎ (k ≡ last) → NodesCovered Γ e e₄ n₄ i k last
-        go (inl l) = elim (below_or_not k whole) [ inl h ↦ by_kept i k hi l h | inr h ↦ by_each i k hi l h ]
+        go (inl l) = elim (cases_lt k whole) [ inl h ↦ by_kept i k hi l h | inr h ↦ by_each i k hi l h ]
         go (inr p) = subst (λ (m : ℕ). NodesCovered Γ e e₄ n₄ i m last) (sym p) (over i last hi (omega arith))
 
     met_old : (i c : ℕ) → i < length Γ.sorts.labels → c < whole → Met Γ e₄ us i c
@@ -293,7 +290,7 @@ module _ {C : Type 0} {Γ : Setting C} (so : Sound Γ) where
       let z = new_kept xs ys last len n ts x g trees over joined in
       rw (room refl) (z.0, λ h. z.1)
   new_tried xs ys last len n ts us false x room full g trees over joined =
-      rw (full refl) (new_full xs ys last len n ts g trees, λ h. absurd (differ h refl))
+      rw (full refl) (new_full xs ys last len n ts g trees, λ h. absurd (both_ways _ refl h))
 
   -- one more label: x is a tree of the j-th over the last entry
   pub fresh_more : (xs ys zs : List (Sort C)) (last len n n₂ j : ℕ) (ts us vs : List Tree) (all met : Bool) (x : Tree) → length ys ≡ length xs
@@ -308,7 +305,7 @@ module _ {C : Type 0} {Γ : Setting C} (so : Sound Γ) where
       × ((i r : ℕ) → i < j + 1 → r < last + 1 → NodesCovered Γ (entry Γ xs) (entry Γ zs) n₂ i last r)
       × ((all && met) ≡ true → (i : ℕ) → i < j + 1 → Met Γ (entry Γ xs) vs i last)
   fresh_more xs ys zs last len n n₂ j ts us vs all met x p leaves at s old before s₂ new alike =
-      (step, (λ i r lt lr. covered i r lt lr (below_or_at i j lt)), λ h i lt. go (both all met h) i (below_or_at i j lt))
+      (step, (λ i r lt lr. covered i r lt lr (below_or_at i j lt)), λ h i lt. go (and_parts all met h) i (below_or_at i j lt))
     where
       step : Stepped Γ xs last len ts zs vs n₂
       step = stepped_trans xs ys zs last len n n₂ ts us vs p s s₂

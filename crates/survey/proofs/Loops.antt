@@ -8,7 +8,7 @@ use Rattle.survey.specs.Survey.{Covers, Refused, Setting, blank, entry}
 use Rattle.forest.specs.Forest.{Forest, nil}
 use Rattle.survey.specs.declared.types.Leaves.{Leaves}
 use Rattle.survey.specs.Sorting.{Sorts}
-use Rattle.survey.specs.Steps.{Closed, Formed, Full, Grown, Kept, Offered, another, better, no_better, NodeCovered, NodesAround, Sound, TextCovered, TreeCovered, as_nil, node_cost}
+use Rattle.survey.specs.Steps.{Closed, Formed, NoRoom, Grown, Kept, Offered, another, better, no_better, NodeCovered, NodesAround, Sound, TextCovered, TreeCovered, as_nil, node_cost}
 
 -- another count of the same room
 pub kept_cap : {C : Type 0} {Γ : Setting C} {e : ℕ → Sort C} {done len cap cap' : ℕ} → cap ≡ cap' → Kept Γ e done len cap → Kept Γ e done len cap'
@@ -109,7 +109,7 @@ module _ {C : Type 0} {Γ : Setting C} (so : Sound Γ) where
 
 -- no room for the sort of nil
 pub none_fits : {C : Type 0} {Γ : Setting C} (sorted : Sorts Γ.sorts) (xs ys : List (Sort C)) (len : ℕ) (x : Sort C) (f : Fault) → len ≡ 0 → Γ.sorts.has nil x.standings
-    → length ys ≡ length xs → Full (blank Γ) xs len x f → Refused Γ (length ys) f
+    → length ys ≡ length xs → NoRoom (blank Γ) xs len x f → Refused Γ (length ys) f
 none_fits sorted xs ys len x f none s same h =
     let full = h.full in
     record {

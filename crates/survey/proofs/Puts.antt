@@ -1,7 +1,8 @@
 -- One entry put into the list: in place of a dearer one of its sort, or as a new one.
 use Rattle.std.proofs.Common.{◌≡◌, ℕ, ◌+◌, ◌<◌, ◌≤◌, ◌≢◌, ◌⊎◌, List, length, set, sym, refl, ap, ◌∙◌, inl, inr, arith, get_or-set_other, get_or-set_same}
+use Rattle.std.proofs.lemmas.Bool.{cases_lt}
 use Rattle.survey.specs.declared.types.Sort.{Sort}
-use Rattle.survey.proofs.Basics.{same_or_not, below_or_not, le_self, le_flip, covered_lower, formed_at, good_at, le_at, standings_at, grown_none}
+use Rattle.survey.proofs.Basics.{same_or_not, le_self, le_flip, covered_lower, formed_at, good_at, le_at, standings_at, grown_none}
 use Rattle.survey.specs.Survey.{Setting, blank, entry}
 use Rattle.survey.specs.Steps.{Covered, Formed, Grown, Kept, Offered, Sound, another, better, no_better}
 
@@ -105,7 +106,7 @@ module _ {C : Type 0} {Γ : Setting C} (so : Sound Γ) (xs : List (Sort C)) (don
   taken ys n (no_better k lt eq le p q) =
       rw (p, q) (grown_none (entry Γ xs) done len (length xs) kept, (k, lt, eq, le))
   taken ys n (better k lt eq higher p q) =
-      let low : done ≤ k = elim (below_or_not k done) [ inl h ↦ absurd (higher (above k h)) | inr h ↦ h ] in
+      let low : done ≤ k = elim (cases_lt k done) [ inl h ↦ absurd (higher (above k h)) | inr h ↦ h ] in
       let fits : len ≤ length xs = kept.fits in
       rw (p, q) (taken_at k len low lt (omega arith) fits (omega arith) (λ j h ne. h)
       (λ j h ne eq'. ne (kept.apart j k h lt (eq' ∙ sym eq)))

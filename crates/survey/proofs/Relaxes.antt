@@ -1,5 +1,6 @@
 -- An offer, as a step of the survey.
 use Rattle.std.proofs.Common.{◌≡◌, ℕ, ◌+◌, ◌<◌, ◌≤◌, ◌⊎◌, List, length, get_or, Some, Ok, Err, Result, sym, refl, ◌∙◌, subst, inl, inr, arith}
+use Rattle.std.proofs.lemmas.Bool.{cases_lt}
 use Rattle.std.proofs.lemmas.List.{get_or_default}
 use Rattle.survey.specs.declared.types.Standings.{Standings}
 use Rattle.survey.specs.declared.types.Sort.{Sort}
@@ -7,7 +8,7 @@ use Rattle.forest.specs.declared.fault.Fault.{Fault}
 use Rattle.survey.specs.declared.types.First.TheVariants.{Text, Node}
 use Rattle.survey.specs.declared.types.Tree.{Tree}
 use Rattle.survey.specs.KeptTrees.{OverEntry, Joins}
-use Rattle.survey.proofs.Basics.{good_at, below_or_not, covered_at, covers_by}
+use Rattle.survey.proofs.Basics.{good_at, covered_at, covers_by}
 use Rattle.survey.proofs.Puts.{taken}
 use Rattle.survey.proofs.Finishes.{too_many}
 use Rattle.survey.specs.Survey.{Setting, blank, entry}
@@ -34,7 +35,7 @@ module _ {C : Type 0} {Γ : Setting C} where
 
   -- no length is above the ceiling
   sized : (e : ℕ → Sort C) (done len cap : ℕ) → Kept Γ e done len cap → (k : ℕ) → k < len → (e k).length ≤ ceiling
-  sized e done len cap kept k h = elim (below_or_not k done) [ inl lt ↦ formed_sized e k (e k) (kept.settled k lt) | inr ge ↦ formed_sized e done (e k) (kept.tentative k ge h) ]
+  sized e done len cap kept k h = elim (cases_lt k done) [ inl lt ↦ formed_sized e k (e k) (kept.settled k lt) | inr ge ↦ formed_sized e done (e k) (kept.tentative k ge h) ]
 
 -- a sort that was read at a place where one stands
 pub record ReadAt {C : Type 0} (Γ : Setting C) (xs : List (Sort C)) (k : ℕ) (x : Sort C) : Type 0 where
@@ -42,7 +43,7 @@ pub record ReadAt {C : Type 0} (Γ : Setting C) (xs : List (Sort C)) (k : ℕ) (
   pub fine : Γ.good x.cost
   pub short : x.length ≤ ceiling
 
-pub read_at : {C : Type 0} {Γ : Setting C} (xs : List (Sort C)) (done len k : ℕ) (x : Sort C) → Kept Γ (entry Γ xs) done len (length xs) → k < len → x ≡ get_or xs k x → ReadAt Γ xs k x
+read_at : {C : Type 0} {Γ : Setting C} (xs : List (Sort C)) (done len k : ℕ) (x : Sort C) → Kept Γ (entry Γ xs) done len (length xs) → k < len → x ≡ get_or xs k x → ReadAt Γ xs k x
 read_at {C} {Γ} xs done len k x kept lt eq =
     let fits : len ≤ length xs = kept.fits in
     let is = read Γ xs k x (omega arith) eq in
@@ -51,6 +52,12 @@ read_at {C} {Γ} xs done len k x kept lt eq =
       fine = good_at Γ (entry Γ xs k) x is (kept.fine k lt);
       short = subst (λ (z : Sort C). z.length ≤ ceiling) (sym is) (sized (entry Γ xs) done len (length xs) kept k lt);
     }
+
+-- the content and the rest of a node
+pub parts_at : {C : Type 0} {Γ : Setting C} (xs : List (Sort C)) (last len : ℕ) (t : Tree) (rest : ℕ) (x y : Sort C) → Kept Γ (entry Γ xs) (last + 1) len (length xs)
+    → OverEntry Γ (entry Γ xs) (last + 1) t → rest ≤ last → x ≡ get_or xs t.content x → y ≡ get_or xs rest y → ReadAt Γ xs t.content x × ReadAt Γ xs rest y
+parts_at xs last len t rest x y kept over le p q =
+    (read_at xs (last + 1) len t.content x kept (omega (arith, over.content, kept.within)) p, read_at xs (last + 1) len rest y kept (omega (arith, kept.within)) q)
 
 module _ {C : Type 0} {Γ : Setting C} (so : Sound Γ) (xs : List (Sort C)) (last len : ℕ) (kept : Kept Γ (entry Γ xs) (last + 1) len (length xs)) where
   relaxed : (x : Sort C) → Formed Γ (entry Γ xs) (last + 1) x → Γ.good x.cost → Γ.le (entry Γ xs last).cost x.cost

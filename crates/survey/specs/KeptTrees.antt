@@ -1,4 +1,4 @@
--- The trees that a survey keeps: one for each set of leaves. Whoever calls the survey needs none of it.
+-- The trees that a survey keeps, most often one for each set of leaves. Whoever calls the survey needs none of it.
 use Rattle.std.specs.Prelude.{◌≡◌, ℕ, ◌+◌, ◌<◌, ◌≤◌, Bool, true, List, length, Ok, Err, Result, slice_index_or, slice_index}
 use Rattle.forest.specs.declared.fault.Fault.{Fault}
 use Rattle.forest.specs.Forest.{Label}

@@ -124,14 +124,14 @@ pub data Offered {C : Type 0} (le : C → C → Type 0) (d : Sort C) (xs : List 
   better : (k : ℕ) → k < len → (get_or xs k d).standings ≡ x.standings → (le (get_or xs k d).cost x.cost → ⊥) → ys ≡ slice_set xs k x → n ≡ len → Offered le d xs len x ys n
   another : Absent (λ k. get_or xs k d) len x.standings → len < length xs → ys ≡ slice_set xs len x → n ≡ len + 1 → Offered le d xs len x ys n
 
-pub record Full {C : Type 0} (d : Sort C) (xs : List (Sort C)) (len : ℕ) (x : Sort C) (f : Fault) : Type 0 where
+pub record NoRoom {C : Type 0} (d : Sort C) (xs : List (Sort C)) (len : ℕ) (x : Sort C) (f : Fault) : Type 0 where
   pub tells : told f ≡ (21, 0)
   pub full : length xs ≤ len
   pub absent : Absent (λ k. get_or xs k d) len x.standings
 
 abbrev pub Offer : {C A : Type 0} → (C → C → Type 0) → Sort C → List (Sort C) → ℕ → Sort C → List (Sort C) → ℕ → Result A Fault → Type 0
 Offer le d xs len x ys n (Ok _) = Offered le d xs len x ys n
-Offer le d xs len x ys n (Err f) = Full d xs len x f
+Offer le d xs len x ys n (Err f) = NoRoom d xs len x f
 
 -- the cheapest from `done` on has changed places with the entry at `done`
 pub record Settled {C : Type 0} (le : C → C → Type 0) (d : Sort C) (xs : List (Sort C)) (done len : ℕ) (ys : List (Sort C)) : Type 0 where

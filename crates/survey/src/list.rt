@@ -15,6 +15,7 @@ pub struct Listing {
     hints: Hints<2048>,
 }
 
+// One line here and one for the leaves of trees: a trait for the two would be longer.
 fn key(standings: Standings) -> u64 {
     key_of(standings.old, standings.new)
 }
@@ -47,7 +48,8 @@ impl Listing {
         }
     }
 
-    // Where a sort stands.
+    // Where a sort stands. What no hint tells is looked for and noted: where it is found, or else at the end, where it
+    // will be written if there is room.
     fn find<C: Copy>(&mut self, list: &[Sort<C>], standings: Standings) -> Option<usize>
         requires { self.old.len ≤ length list.now }
         ensures same { self.new.len ≡ self.old.len }
@@ -77,11 +79,10 @@ impl Listing {
     {
         measure.tied();
         let place = least::<M::Cost, M>(measure, list, done, self.len);
-        let from = self.hints.noted(key(list[place].standings), place);
-        let back = self.hints.noted(key(list[done].standings), done);
+        let cheapest = key(list[place].standings);
+        let first = key(list[done].standings);
+        self.hints.exchange(cheapest, place, first, done);
         list.swap(done, place);
-        self.hints.renote(from, done);
-        self.hints.renote(back, place);
     }
 
     // Writes a sort down if it is new, or cheaper than it was.

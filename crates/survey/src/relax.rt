@@ -1,4 +1,5 @@
 // What an entry that is settled newly allows: an empty text before it, kept trees before it, trees over it.
+// What a list keeps stands in each contract, and not on a type: the list is lent beside its length (see Listing).
 ghost use Rattle.std.specs.Prelude.{◌≡◌, ◌+◌, ◌≤◌, ◌⊎◌};
 ghost use Rattle.survey.specs.Survey.{setting};
 ghost use Rattle.survey.specs.Steps.{Keeps, Texted};
@@ -78,7 +79,8 @@ fn relax_node<S: Sorting, M: Measure>(
     listing.offer(rules.measure, list, sort)
 }
 
-// A tree over the entry settled last, before each settled entry. By index: the list is written in between.
+// A tree over the entry settled last, before each settled entry. By index: the list is written in between. The range
+// ends before `last + 1`: that up to `last` ends in the middle of a step, which the proof would then have twice.
 fn relax_over<S: Sorting, M: Measure>(
     rules: &Rules<S, M>,
     list: &mut [Sort<M::Cost>],
@@ -140,7 +142,7 @@ fn relax_each<S: Sorting, M: Measure>(
     Ok(())
 }
 
-// Each label over the entries from `whole` on, before the entry settled last.
+// Each label over the entries from `whole` on, before the entry settled last. By index: the list is written in between.
 fn relax_rests<S: Sorting, M: Measure>(
     rules: &Rules<S, M>,
     list: &mut [Sort<M::Cost>],
@@ -159,7 +161,7 @@ fn relax_rests<S: Sorting, M: Measure>(
 }
 
 // A tree over the entry settled last: if no kept one is like it, before each settled entry, and kept if there is room.
-// Tells whether a kept one is like it now.
+// Tells whether a kept one is like it now: where none is there was no room, which is no failure.
 fn relax_new<S: Sorting, M: Measure>(
     rules: &Rules<S, M>,
     list: &mut [Sort<M::Cost>],
@@ -181,7 +183,8 @@ fn relax_new<S: Sorting, M: Measure>(
     Ok(trees.keep(tree))
 }
 
-// The trees over the entry settled last. Tells whether a kept one is like each of them now.
+// The trees over the entry settled last. Tells whether a kept one is like each of them now; else their nodes are tried
+// again before each entry that is settled later.
 fn relax_trees<S: Sorting, M: Measure>(
     rules: &Rules<S, M>,
     list: &mut [Sort<M::Cost>],

@@ -7,10 +7,11 @@ use crate::hints::{Hints, key_of};
 use crate::types::{Leaves, Tree};
 use std::marker::Model;
 
-// How many trees are kept.
+// The most trees that are kept.
 const ROOM: usize = 4096;
 
-// Trees, one for each set of leaves, and hints where each stands.
+// Trees, and hints where each stands. As a rule there is one for each set of leaves; where a hint was lost, a second one
+// with the same leaves may be kept. A fixed array, as nothing may be allocated.
 #[derive(Drop)]
 pub struct KeptTrees {
     trees: [Tree; ROOM],
@@ -26,6 +27,7 @@ impl Model for KeptTrees {
     ghost invariant = { λ kept. kept.count ≤ 4096 };
 }
 
+// One line here and one for the standings of sorts: a trait for the two would be longer.
 fn key(leaves: Leaves) -> u64 {
     key_of(leaves.old, leaves.new)
 }
@@ -65,7 +67,8 @@ impl KeptTrees {
             .is_some()
     }
 
-    // Keeps a tree, and tells whether there was room for it.
+    // Keeps a tree, and tells whether there was room for it. A survey goes on without, so this is no failure but a fact
+    // that it takes into account.
     pub fn keep(&mut self, tree: Tree) -> bool
         ensures room { result ≡ true → self.new ≡ self.old ++ tree ∷ [] }
         ensures full { result ≡ false → self.new ≡ self.old }

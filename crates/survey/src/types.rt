@@ -25,6 +25,8 @@ pub enum First {
 
 /// A sort of forests, and a cheapest forest of it: its cost, its length, and what it begins with, before the forest
 /// of the element at `rest`; a node's content is the forest of the element at `content`.
+// Content and rest are plain numbers beside `first`, 0 where there is none: as such they are copied to the plain table
+// that a loss is written from, and nothing may be allocated for parts of their own.
 #[derive(Clone, Copy)]
 pub struct Sort<C> {
     pub standings: Standings,

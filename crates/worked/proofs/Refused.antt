@@ -1,6 +1,7 @@
 -- The refusals, by tests that compute.
 use Rattle.std.proofs.Common.{◌≡◌, ℕ, zero, suc, ◌+◌, ◌-◌, ◌%◌, ◌<◌, Bool, true, false, ◌&&◌, ◌||◌, T, eqb, ltb, leb, List, [], ◌∷◌, ◌++◌, length, take, replicate, sym, refl, ap, ◌∙◌, subst, arith, le→leb, eqb→eq, ltb→lt, lt→ltb, leb→le}
 use Rattle.std.proofs.Math.Dec.{eqb_refl}
+use Rattle.std.proofs.lemmas.Bool.{or_parts}
 use Rattle.forest.specs.Forest.{Forest, nil, text, node, Bytes, Proper, bytes_of}
 use Rattle.forest.specs.Reading as reading
 use Rattle.forest.specs.Reading.{Token, opening, chars, closing, all_written, LeavesOpen, Wrong, DueWithin}
@@ -99,10 +100,6 @@ just_read =
     }
 
 -- Rows.
-either_false : (a b : Bool) → (a || b) ≡ false → (a ≡ false) × (b ≡ false)
-either_false true b q = absurd (cc)
-either_false false b q = (refl, q)
-
 -- Whether four bytes say a row.
 abbrev case? : Bool → Bool → Bool
 case? true b = b
@@ -125,13 +122,13 @@ same x y e = subst (λ (n : ℕ). T (eqb x n)) e (eqb_refl x)
 
 nothing_said : (k a b c : ℕ) → said? k a b c ≡ false → Unsaid k a b c
 nothing_said k a b c q =
-    let z0 = either_false (case? (eqb k 0) (eqb (a + b + c) 0)) _ q in
-    let z1 = either_false (case? (eqb k 1) (eqb (a + b + c) 0)) _ z0.1 in
-    let z2 = either_false (case? (eqb k 2) (ltb 0 (a + b))) _ z1.1 in
-    let z3 = either_false (case? (eqb k 3) (eqb (a + b) 0)) _ z2.1 in
-    let z4 = either_false (case? (eqb k 4) (eqb c 0)) _ z3.1 in
-    let z5 = either_false (case? (eqb k 5) (eqb c 0)) _ z4.1 in
-    let z6 = either_false (case? (eqb k 6) (eqb (b + c) 0)) _ z5.1 in (
+    let z0 = or_parts (case? (eqb k 0) (eqb (a + b + c) 0)) _ q in
+    let z1 = or_parts (case? (eqb k 1) (eqb (a + b + c) 0)) _ z0.1 in
+    let z2 = or_parts (case? (eqb k 2) (ltb 0 (a + b))) _ z1.1 in
+    let z3 = or_parts (case? (eqb k 3) (eqb (a + b) 0)) _ z2.1 in
+    let z4 = or_parts (case? (eqb k 4) (eqb c 0)) _ z3.1 in
+    let z5 = or_parts (case? (eqb k 5) (eqb c 0)) _ z4.1 in
+    let z6 = or_parts (case? (eqb k 6) (eqb (b + c) 0)) _ z5.1 in (
       λ e h. not_both k 0 _ z0.0 e (same _ 0 h),
       λ e h. not_both k 1 _ z1.0 e (same _ 0 h),
       λ e h. not_both k 2 _ z2.0 e (lt→ltb 0 (a + b) h),

@@ -23,8 +23,8 @@ pub record Fronts : Type 0 where
   pub mark_turned : Front (0x53 ∷ 0x54 ∷ 0 ∷ 0 ∷ []) (refused 2 0)
 
 -- The line of the entry of this number, where the show buffer holds these bytes.
-abbrev pub told : ℕ → Line → List ℕ → List ℕ
-told n line show = line_text n (fields line show)
+abbrev pub line_of : ℕ → Line → List ℕ → List ℕ
+line_of n line show = line_text n (fields line show)
 
 -- A loss of this cost and length, and whether it is shown.
 abbrev pub costing : ℕ → ℕ → Bool → Loss ℕ
@@ -35,13 +35,13 @@ abbrev pub ended : List ℕ → List ℕ
 ended text = text ++ (10 ∷ [])
 
 pub record Lines : Type 0 where
-  pub an_edition : told 1 (Edition 1) [] ≡ ended (codes "1 edition 1")
-  pub a_record : told 20 (Record 256) [] ≡ ended (codes "20 record 256")
-  pub a_refusal : told 3 (Refused (fault NestedTooDeep 192)) [] ≡ ended (codes "3 refused 8 192")
-  pub a_loss : told 4 (Lost (costing 10 10 true)) (1 ∷ 0 ∷ 10 ∷ 1 ∷ 0 ∷ 11 ∷ 3 ∷ 0 ∷ 2 ∷ 2 ∷ 255 ∷ []) ≡ ended (codes "4 refused 36 10 10 01000A01000B03000202")
-  pub a_loss_by_cost : told 5 (Lost (costing 7 2 true)) (3 ∷ 0 ∷ 9 ∷ []) ≡ ended (codes "5 refused 36 7 2 0300")
-  pub no_bytes : told 6 (Lost (costing 0 0 true)) (9 ∷ []) ≡ ended (codes "6 refused 36 0 0 -")
-  pub not_shown : told 7 (Lost (costing 70000 70000 false)) (9 ∷ []) ≡ ended (codes "7 refused 36 70000 70000 not shown")
+  pub an_edition : line_of 1 (Edition 1) [] ≡ ended (codes "1 edition 1")
+  pub a_record : line_of 20 (Record 256) [] ≡ ended (codes "20 record 256")
+  pub a_refusal : line_of 3 (Refused (fault NestedTooDeep 192)) [] ≡ ended (codes "3 refused 8 192")
+  pub a_loss : line_of 4 (Lost (costing 10 10 true)) (1 ∷ 0 ∷ 10 ∷ 1 ∷ 0 ∷ 11 ∷ 3 ∷ 0 ∷ 2 ∷ 2 ∷ 255 ∷ []) ≡ ended (codes "4 refused 36 10 10 01000A01000B03000202")
+  pub a_loss_by_cost : line_of 5 (Lost (costing 7 2 true)) (3 ∷ 0 ∷ 9 ∷ []) ≡ ended (codes "5 refused 36 7 2 0300")
+  pub no_bytes : line_of 6 (Lost (costing 0 0 true)) (9 ∷ []) ≡ ended (codes "6 refused 36 0 0 -")
+  pub not_shown : line_of 7 (Lost (costing 70000 70000 false)) (9 ∷ []) ≡ ended (codes "7 refused 36 70000 70000 not shown")
   -- 4,096 bytes of a loss are shown and 4,097 are not; an array is filled up with 0.
   pub most_shown : loss (replicate 4096 7) ≡ bytes (replicate 4096 7)
   pub one_too_many : loss (replicate 4097 7) ≡ word (codes "not shown")

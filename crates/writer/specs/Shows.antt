@@ -3,7 +3,7 @@ use Rattle.std.specs.Prelude.{◌≡◌, ℕ, ◌<◌, ◌≤◌, Bool, true, fa
 use Rattle.forest.specs.Forest.{Forest, bytes_of}
 use Rattle.measure.specs.Lengths.{length_of}
 use Rattle.survey.specs.declared.types.Sort.{Sort}
-use Rattle.survey.specs.Survey.{Setting, Rebuilt, Stands}
+use Rattle.survey.specs.Survey.{Setting, entry, Rebuilt, Stands}
 use Rattle.writer.specs.declared.parts.Part.{Part}
 use Rattle.writer.specs.Tables.{part_at}
 
@@ -35,6 +35,11 @@ pub record Shown {C : Type 0} (Γ : Setting C) (x : Sort C) (before after : List
   pub forest : Forest
   pub stands : Stands Γ x forest
   pub put : Put forest before after shown
+
+-- Each of the first n elements can be shown, and what is written of it is a forest of its sort, cost and length.
+pub record AllShown {C : Type 0} (Γ : Setting C) (xs : List (Sort C)) (n : ℕ) : Type 0 where
+  pub readable : (k : ℕ) → k < n → Readable xs k
+  pub shown : (k : ℕ) → k < n → (before after : List ℕ) (r : Bool) → Written xs k before after r → Shown Γ (entry Γ xs k) before after r
 
 -- The table holds the first trees, contents and rests of the first n elements.
 abbrev pub part_of : {C : Type 0} → Sort C → Part

@@ -4,13 +4,17 @@
 
 mod parts;
 
-ghost use Rattle.std.specs.Prelude.{◌≡◌, ◌+◌, ◌/◌, ◌%◌, ◌<◌, ◌≤◌, [], ◌∷◌, ◌++◌, length, drop, slice_index_or};
+ghost use Rattle.std.specs.Prelude.{◌≡◌, ℕ, ◌+◌, ◌/◌, ◌%◌, ◌<◌, ◌≤◌, List, [], ◌∷◌, ◌++◌, length, drop, slice_index_or};
 ghost use Rattle.forest.specs.Forest.{bytes_of};
+ghost use Rattle.survey.specs.declared.types.Sort.{Sort as Entry};
+ghost use Rattle.survey.specs.Survey.{setting, entry, Surveyed};
 ghost use Rattle.writer.specs.Tables.{Lower, forest as spelled};
-ghost use Rattle.writer.specs.Shows.{Copied, Readable, Written};
+ghost use Rattle.writer.specs.Shows.{Copied, Readable, Written, AllShown};
 
+use forest::{CLOSING, OPENING, TEXT};
+use measure::Measure;
 pub use parts::Part;
-use survey::{First, Sort};
+use survey::{First, Sort, Sorting};
 
 /// How many elements of a list, from the first on, have forests that can be written out.
 pub const ROOM: usize = 1024;
@@ -23,7 +27,7 @@ fn opening(label: u16) -> [u8; 3]
     ensures { result ≡ 1 ∷ label / 256 ∷ label % 256 ∷ [] }
 {
     let [high, low] = label.to_be_bytes();
-    [1, high, low]
+    [OPENING, high, low]
 }
 
 // Writes the forest at `index` to the front of `out`, and says how long it is.
@@ -38,13 +42,13 @@ fn write(table: &[Part], index: usize, out: &mut [u8]) -> usize
     match part.first {
         First::Nothing => 0,
         First::Text => {
-            out[..2].copy_from_slice(&[3, 0]);
+            out[..2].copy_from_slice(&[TEXT, 0]);
             2 + write(table, part.rest, &mut out[2..])
         }
         First::Node(label) => {
             out[..3].copy_from_slice(&opening(label));
             let end = 3 + write(table, part.content, &mut out[3..]);
-            out[end] = 2;
+            out[end] = CLOSING;
             end + 1 + write(table, part.rest, &mut out[end + 1..])
         }
     }
@@ -81,3 +85,9 @@ pub fn show<C: Copy>(list: &[Sort<C>], index: usize, out: &mut [u8]) -> bool
     write(&table, index, out);
     true
 }
+
+/// Promises that every element of a survey's list can be shown, and that what is written of it is a forest of its
+/// sort, cost and length.
+pub fn survey_is_shown<S: Sorting, M: Measure>(sorting: &S, measure: &M)
+    ensures { (list : List (Entry M.Cost)) (n : ℕ) → Surveyed (setting (M.Measure.model measure.now) (S.Sorting.model sorting.now)) (entry (setting (M.Measure.model measure.now) (S.Sorting.model sorting.now)) list) n (length list) → AllShown (setting (M.Measure.model measure.now) (S.Sorting.model sorting.now)) list n }
+{}

@@ -2,7 +2,7 @@ use Rattle.std.proofs.Common.{◌≡◌, suc, ◌+◌, ◌-◌, ◌<◌, ◌≤�
 use Rattle.std.proofs.lemmas.Result.{err_from_is_err_and}
 use Rattle.forest.specs.declared.fault.Refusal.TheVariants.{LabelZero, NestedTooDeep, TreeCutShort, NoTree}
 use Rattle.forest.specs.Refusals.{fault}
-use Rattle.forest.proofs.Stretches.{OpensAt, opens, text_seen, ShortSeen, short_seen, label_zero_seen, no_mark_seen, stretch_more, stretch_node, refused_here, refused_after, refused_inside, too_nested, unclosed}
+use Rattle.forest.proofs.Stretches.{opens, text_seen, ShortSeen, short_seen, label_zero_seen, no_mark_seen, stretch_more, stretch_node, refused_here, refused_after, refused_inside, too_nested, unclosed}
 use Rattle.forest.proofs.read.+read_forest_read_tree.Goals as goal
 
 pub read_forest-returns-in_err-at : goal.read_forest-returns-in_err-at
@@ -21,13 +21,13 @@ read_tree-returns-in-1 t c =
 pub read_tree-returns-in-1-2 : goal.read_tree-returns-in-1-2
 read_tree-returns-in-1-2 t c =
     let e : c.here-in-1-2.result ≡ fault NestedTooDeep c.args.at = search rules in
-    let o : OpensAt c.args.body.now c.args.at = opens c.args.body.now c.args.at c.requires.0 (search rules) (search rules) (grind arith) in
+    let o = opens c.args.body.now c.args.at c.requires.0 (search rules) (search rules) (grind arith) in
     rw e (refused_here (64 - c.args.nesting) c.args.body.now c.args.at 8 (too_nested (64 - c.args.nesting) c.args.body.now c.args.at c.type_inv.body o (omega arith)))
 
 pub read_tree-returns-in_err-end-in-1-3 : goal.read_tree-returns-in_err-end-in-1-3
 read_tree-returns-in_err-end-in-1-3 t c =
     let p = err_from_is_err_and c.from_residual.result c.from_residual.ensures.1 in
-    let o : OpensAt c.args.body.now c.args.at = opens c.args.body.now c.args.at c.requires.0 (search rules) (search rules) (grind arith) in
+    let o = opens c.args.body.now c.args.at c.requires.0 (search rules) (search rules) (grind arith) in
     let n : c.args.nesting ≤ 64 = c.requires.1.0 in
     let m : (c.args.nesting ≡ 0) → ⊥ = c.if-nesting-eq0.false in
     let k : 64 - (c.args.nesting - 1) ≡ suc (64 - c.args.nesting) = omega arith in
@@ -36,7 +36,7 @@ read_tree-returns-in_err-end-in-1-3 t c =
 
 pub read_tree-returns-then-end-body : goal.read_tree-returns-then-end-body
 read_tree-returns-then-end-body t c =
-    let o : OpensAt c.args.body.now c.args.at = opens c.args.body.now c.args.at c.requires.0 (search rules) (search rules) (grind arith) in
+    let o = opens c.args.body.now c.args.at c.requires.0 (search rules) (search rules) (grind arith) in
     let n : c.args.nesting ≤ 64 = c.requires.1.0 in
     let m : (c.args.nesting ≡ 0) → ⊥ = c.if-nesting-eq0.false in
     let s = c.in_ok-end-in-1-3.ensures.0 in
@@ -48,7 +48,7 @@ read_tree-returns-then-end-body t c =
 
 pub read_tree-returns-else-end-body : goal.read_tree-returns-else-end-body
 read_tree-returns-else-end-body t c =
-    let o : OpensAt c.args.body.now c.args.at = opens c.args.body.now c.args.at c.requires.0 (search rules) (search rules) (grind arith) in
+    let o = opens c.args.body.now c.args.at c.requires.0 (search rules) (search rules) (grind arith) in
     let s = c.in_ok-end-in-1-3.ensures.0 in
     let x = c.if-end-body.false in
     let two : get_or c.args.body.now c.in_ok-end-in-1-3.end 0 ≡ 2

@@ -3,19 +3,16 @@ use Rattle.survey.specs.KeptTrees.{tree_at}
 use Rattle.survey.proofs.Loops.{grown_cap}
 use Rattle.survey.proofs.KeptTrees.{over_move, joined_more}
 use Rattle.survey.proofs.relax.relax_before.Goals as goal
-use Rattle.survey.specs.Survey.{entry, setting}
 
 pub relax_node-requires-clause-over : goal.relax_node-requires-clause-over
 relax_node-requires-clause-over g c =
-    let Γ = setting (g.M.Measure.model c.args.rules.now.measure.now) (g.S.Sorting.model c.args.rules.now.sorting.now) in
-    over_move (entry Γ c.args.list.now) (entry Γ c.loop-tree.list) (c.args.last + 1) (c.args.last + 1) (tree_at c.args.trees.now c.loop-tree.tree-index) (omega arith) c.loop-tree.invariant.0.same (c.requires.over c.loop-tree.tree-index (omega arith))
+    over_move _ _ (c.args.last + 1) (c.args.last + 1) (tree_at c.args.trees.now c.loop-tree.tree-index) (omega arith) c.loop-tree.invariant.0.same (c.requires.over c.loop-tree.tree-index (omega arith))
 
 pub loop-tree-preserved : goal.loop-tree-preserved
 loop-tree-preserved g c =
-    let Γ = setting (g.M.Measure.model c.args.rules.now.measure.now) (g.S.Sorting.model c.args.rules.now.sorting.now) in
     let so = c.requires.kept.sound in
     let z = c.in_ok-relax_node.ensures in
-    joined_more so (entry Γ c.args.list.now) (entry Γ c.loop-tree.list) (entry Γ c.relax_node.new.list)
+    joined_more so _ _ _
     c.args.last c.args.listing.now.len c.loop-tree.listing.len c.relax_node.new.listing.len (length c.args.list.now) c.loop-tree.tree-index (tree_at c.args.trees.now) (λ _. c.args.last)
     (λ k lt. (c.requires.over k (omega arith)).content) (λ k lt. omega arith)
     c.loop-tree.invariant.0 c.loop-tree.invariant.1 (grown_cap (omega arith) z.0) z.1

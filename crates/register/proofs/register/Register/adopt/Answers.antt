@@ -2,7 +2,7 @@ use Rattle.std.proofs.Common.{ap, ◌∙◌}
 use mathlib.Core.Option.{none, some}
 use Rattle.store.specs.Stores.{lists}
 use Rattle.law.specs.Calls.{newest}
-use Rattle.register.proofs.Holdings.{last_push}
+use Rattle.law.proofs.Lists.{last_push}
 use Rattle.register.proofs.register.Register.adopt.Goals as goal
 
 pub invariant_of-self-clause-last : goal.invariant_of-self-clause-last

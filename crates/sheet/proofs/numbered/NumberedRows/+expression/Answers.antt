@@ -1,9 +1,8 @@
-use Rattle.std.proofs.Common.{◌≡◌, ℕ, ◌<◌, ◌⊎◌, length, get_or, ap, ◌∙◌, inl, inr, arith, rules}
+use Rattle.std.proofs.Common.{◌≡◌, ℕ, ◌<◌, ◌⊎◌, length, get_or, ap, ◌∙◌, inl, inr}
 use mathlib.Core.Option.{some}
 use Rattle.rows.specs.Sheet.{Sheet, at, a_leaf}
 use Rattle.rows.specs.declared.row.Row.{Row}
 use Rattle.rows.specs.declared.row.Row.TheVariants.{Empty as empty, Text as one_text, Named as named, Any as any, Seq as seq, Alt as alt, Many as many, Def as def}
-use Rattle.rows.specs.Sheet.{seq_first, seq_second, alt_first, alt_second, many_part, def_part}
 use Rattle.rows.proofs.Numbers.{at_get_or}
 use Rattle.sheet.proofs.Growing.{LeafRow, leaf_is, shape_empty, shape_leaf, shape_seq, shape_alt, shape_many, shape_def, grown_leaf, grown_row, grown_none, grown_seq, grown_alt, grown_many, grown_def}
 use Rattle.sheet.proofs.numbered.NumberedRows.+expression.Goals as goal
@@ -19,48 +18,18 @@ leafy s e (inr (inr q)) = rw q.1 tt
 pub place-own-requires : goal.place-own-requires
 place-own-requires t c =
     let s = c.args.self.rows.now in
-    a_leaf (leaf_is s c.args.e (get_or s c.args.e empty) (at_get_or s c.args.e empty c.requires.0) (leafy s c.args.e c.in-Text.is))
-
-pub expression-first-requires : goal.expression-first-requires
-expression-first-requires t c =
-    let h = c.args.self.ready.formed.lower (seq_first (row_at c.args.self.rows.now c.args.e _ c.requires.0 c.in-Seq.is)) in
-    (search rules, (omega arith, c.requires.1))
-
-pub expression-second-requires : goal.expression-second-requires
-expression-second-requires t c =
-    let h = c.args.self.ready.formed.lower (seq_second (row_at c.args.self.rows.now c.args.e _ c.requires.0 c.in-Seq.is)) in
-    (search rules, (omega arith, omega arith))
-
-pub expression-first-requires-in-Alt : goal.expression-first-requires-in-Alt
-expression-first-requires-in-Alt t c =
-    let h = c.args.self.ready.formed.lower (alt_first (row_at c.args.self.rows.now c.args.e _ c.requires.0 c.in-Alt.is)) in
-    (search rules, (omega arith, c.requires.1))
-
-pub expression-second-requires-in-Alt : goal.expression-second-requires-in-Alt
-expression-second-requires-in-Alt t c =
-    let h = c.args.self.ready.formed.lower (alt_second (row_at c.args.self.rows.now c.args.e _ c.requires.0 c.in-Alt.is)) in
-    (search rules, (omega arith, omega arith))
-
-pub expression-part-requires : goal.expression-part-requires
-expression-part-requires t c =
-    let h = c.args.self.ready.formed.lower (many_part (row_at c.args.self.rows.now c.args.e _ c.requires.0 c.in-Many.is)) in
-    (search rules, (omega arith, c.requires.1))
-
-pub expression-requires : goal.expression-requires
-expression-requires t c =
-    let h = c.args.self.ready.formed.lower (def_part (row_at c.args.self.rows.now c.args.e _ c.requires.0 c.in-Def.is)) in
-    (search rules, (omega arith, c.requires.1))
+    a_leaf (leaf_is s c.args.e (get_or s c.args.e empty) (at_get_or s c.args.e empty c.requires) (leafy s c.args.e c.in-Text.is))
 
 pub returns-in-Empty : goal.returns-in-Empty
 returns-in-Empty t c =
-    let i = row_at c.args.self.rows.now c.args.e empty c.requires.0 c.in-Empty.is in
+    let i = row_at c.args.self.rows.now c.args.e empty c.requires c.in-Empty.is in
     record { shaped = shape_empty c.args.e i; grown = grown_row c.args.e empty i (grown_none c.args.before.now (λ q p x. x)) }
 
 pub returns-in-Text : goal.returns-in-Text
 returns-in-Text t c =
     let s = c.args.self.rows.now in
     let e = c.args.e in
-    let i = at_get_or s e empty c.requires.0 in
+    let i = at_get_or s e empty c.requires in
     let l = leafy s e c.in-Text.is in
     record {
       shaped = shape_leaf s e c.place-own.result (get_or s e empty) i l c.place-own.ensures;
@@ -69,7 +38,7 @@ returns-in-Text t c =
 
 pub returns-in-Seq : goal.returns-in-Seq
 returns-in-Seq t c =
-    let i = row_at c.args.self.rows.now c.args.e (seq c.from.result c.from-in-Seq.result) c.requires.0 (rw (c.from.ensures, c.from-in-Seq.ensures) c.in-Seq.is) in
+    let i = row_at c.args.self.rows.now c.args.e (seq c.from.result c.from-in-Seq.result) c.requires (rw (c.from.ensures, c.from-in-Seq.ensures) c.in-Seq.is) in
     let x = c.expression-first in
     let y = c.expression-second in
     record {
@@ -81,7 +50,7 @@ returns-in-Seq t c =
 
 pub returns-in-Alt : goal.returns-in-Alt
 returns-in-Alt t c =
-    let i = row_at c.args.self.rows.now c.args.e (alt c.from-in-Alt.result c.from-in-Alt-2.result) c.requires.0 (rw (c.from-in-Alt.ensures, c.from-in-Alt-2.ensures) c.in-Alt.is) in
+    let i = row_at c.args.self.rows.now c.args.e (alt c.from-in-Alt.result c.from-in-Alt-2.result) c.requires (rw (c.from-in-Alt.ensures, c.from-in-Alt-2.ensures) c.in-Alt.is) in
     let x = c.expression-first-in-Alt in
     let y = c.expression-second-in-Alt in
     record {
@@ -92,7 +61,7 @@ returns-in-Alt t c =
 
 pub returns-in-Many : goal.returns-in-Many
 returns-in-Many t c =
-    let i = row_at c.args.self.rows.now c.args.e (many c.from-in-Many.result) c.requires.0 (rw c.from-in-Many.ensures c.in-Many.is) in
+    let i = row_at c.args.self.rows.now c.args.e (many c.from-in-Many.result) c.requires (rw c.from-in-Many.ensures c.in-Many.is) in
     let x = c.expression-part in
     record {
       shaped = shape_many c.args.e x.result i x.ensures.shaped;
@@ -102,6 +71,6 @@ returns-in-Many t c =
 
 pub returns-in-Def : goal.returns-in-Def
 returns-in-Def t c =
-    let i = row_at c.args.self.rows.now c.args.e (def c.from-in-Def.result) c.requires.0 (rw c.from-in-Def.ensures c.in-Def.is) in
+    let i = row_at c.args.self.rows.now c.args.e (def c.from-in-Def.result) c.requires (rw c.from-in-Def.ensures c.in-Def.is) in
     let x = c.expression in
     record { shaped = shape_def c.args.e x.result i x.ensures.shaped; grown = grown_def c.args.e i x.ensures.grown }

@@ -1,4 +1,4 @@
-use Rattle.std.proofs.Common.{ℕ, ◌+◌, List, sym, ap, ◌∙◌, subst, arith}
+use Rattle.std.proofs.Common.{ℕ, ◌+◌, List, sym, ap, ◌∙◌, subst}
 use mathlib.Core.Option.{some}
 use Rattle.rows.specs.declared.row.Row.TheVariants.{Empty as empty}
 use Rattle.sheet.specs.Standing.{SetOf}
@@ -12,7 +12,7 @@ use Rattle.sheet.proofs.numbered.NumberedRows.define_all.Goals.{in-Def, in_defau
 
 pub define-ends-requires : goal.define-ends-requires
 define-ends-requires c =
-    (at_get_or c.args.self.rows.now c.loop-e.e empty c.loop-e-test.true ∙ ap some (rw c.from.ensures c.in-Def.is), c.loop-e.invariant.2)
+    at_get_or c.args.self.rows.now c.loop-e.e empty c.loop-e-test.true ∙ ap some (rw c.from.ensures c.in-Def.is)
 
 pub loop-e-preserved : goal.loop-e-preserved
 loop-e-preserved c =
@@ -25,11 +25,9 @@ loop-e-preserved c =
           let j = i ∙ ap some (rw w.from.ensures w.in-Def.is) in (
             subst (λ (m : ℕ). SetOf c.args.self.rows.now m (EndsBelow c.args.self.rows.now (c.loop-e.e + 1))) (sym w.ends-is) (ends_more e w.from.result j inv.0 w.define-ends.ensures.ends),
             subst (λ (t : List ℕ). Tabled c.args.self.rows.now t (LeadsBelow c.args.self.rows.now (c.loop-e.e + 1))) (sym w.before-is) (leads_more e w.from.result j inv.1 w.define-ends.ensures.grown),
-            omega arith,
           )
       | in_default w ↦ (
         subst (λ (m : ℕ). SetOf c.args.self.rows.now m (EndsBelow c.args.self.rows.now (c.loop-e.e + 1))) (sym w.ends-is) (ends_stay e (λ x j. w.in_default.not-Def x (same_row (sym i ∙ j))) inv.0),
         subst (λ (t : List ℕ). Tabled c.args.self.rows.now t (LeadsBelow c.args.self.rows.now (c.loop-e.e + 1))) (sym w.before-is) (leads_stay e (λ x j. w.in_default.not-Def x (same_row (sym i ∙ j))) inv.1),
-        omega arith,
       )
     ]

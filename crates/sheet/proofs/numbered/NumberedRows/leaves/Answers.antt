@@ -1,4 +1,4 @@
-use Rattle.std.proofs.Common.{◌≡◌, ℕ, ap, ◌∙◌, arith}
+use Rattle.std.proofs.Common.{ap, ◌∙◌, arith}
 use mathlib.Core.Option.{some}
 use Rattle.rows.specs.Sheet.{a_leaf, leaf_text, leaf_named, leaf_any}
 use Rattle.rows.specs.declared.row.Row.TheVariants.{Empty as empty}
@@ -29,23 +29,23 @@ loop-p-preserved c =
           let j = i ∙ ap some q in
           rw (w.texts-is, w.named-is, w.anys-is) (
             leaf_more (TextAt s) p j (a_leaf (leaf_text j)) w.place-texts.ensures inv.0,
-            leaf_stay (NamedAt s) p (not_named s p i (λ l d k. let y : ◌≡◌ {A = ℕ} 0 1 = cc in omega arith)) inv.1,
-            leaf_stay (AnyAt s) p (not_any s p i (λ d k. let y : ◌≡◌ {A = ℕ} 0 1 = cc in omega arith)) inv.2,
+            leaf_stay (NamedAt s) p (not_named s p i (λ l d k. cc)) inv.1,
+            leaf_stay (AnyAt s) p (not_any s p i (λ d k. cc)) inv.2,
           )
       | in-Named w ↦
           let q = w.in-Named.is in
           let j = i ∙ ap some q in
           rw (w.texts-is, w.named-is, w.anys-is) (
-            leaf_stay (TextAt s) p (not_text s p i (λ k. let y : ◌≡◌ {A = ℕ} 0 1 = cc in omega arith)) inv.0,
+            leaf_stay (TextAt s) p (not_text s p i (λ k. cc)) inv.0,
             leaf_more (NamedAt s) p (_, _, j) (a_leaf (leaf_named j)) w.place-named.ensures inv.1,
-            leaf_stay (AnyAt s) p (not_any s p i (λ d k. let y : ◌≡◌ {A = ℕ} 0 1 = cc in omega arith)) inv.2,
+            leaf_stay (AnyAt s) p (not_any s p i (λ d k. cc)) inv.2,
           )
       | in-Any w ↦
           let q = w.in-Any.is in
           let j = i ∙ ap some q in
           rw (w.texts-is, w.named-is, w.anys-is) (
-            leaf_stay (TextAt s) p (not_text s p i (λ k. let y : ◌≡◌ {A = ℕ} 0 1 = cc in omega arith)) inv.0,
-            leaf_stay (NamedAt s) p (not_named s p i (λ l d k. let y : ◌≡◌ {A = ℕ} 0 1 = cc in omega arith)) inv.1,
+            leaf_stay (TextAt s) p (not_text s p i (λ k. cc)) inv.0,
+            leaf_stay (NamedAt s) p (not_named s p i (λ l d k. cc)) inv.1,
             leaf_more (AnyAt s) p (_, j) (a_leaf (leaf_any j)) w.place-anys.ensures inv.2,
           )
       | in_default w ↦

@@ -1,14 +1,14 @@
-use Rattle.std.proofs.Common.{ℕ, ◌^◌, refl, ap, ◌∙◌, arith}
+use Rattle.std.proofs.Common.{ℕ, ◌^◌, ap, ◌∙◌, arith}
 use Rattle.rows.proofs.Numbers.{defines_all}
 use Rattle.rows.proofs.Tallies.{zeros}
 use Rattle.sheet.proofs.Tabling.{home_small, top_set}
 use Rattle.sheet.proofs.numbered.NumberedRows.tables.Goals as goal
 
 pub define_all-ends-requires : goal.define_all-ends-requires
-define_all-ends-requires c = (refl, λ j. zeros 64 j)
+define_all-ends-requires c = λ j. zeros 64 j
 
 pub fill_holders-requires-clause-none : goal.fill_holders-requires-clause-none
-fill_holders-requires-clause-none c = (refl, λ j. zeros 64 j)
+fill_holders-requires-clause-none c = λ j. zeros 64 j
 
 pub bit-requires : goal.bit-requires
 bit-requires c =

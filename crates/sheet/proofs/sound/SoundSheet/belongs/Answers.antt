@@ -1,6 +1,5 @@
 use Rattle.std.proofs.Common.{ℕ, List, [], sym, subst}
 use Rattle.std.proofs.lemmas.List.{append-nil}
-use Rattle.forest.specs.Forest.{Forest}
 use Rattle.forest.specs.Reading.{Token, StandsFor, walk}
 use Rattle.forest.specs.Events.{ToCome}
 use Rattle.sheet.specs.Belonging.{at_end}

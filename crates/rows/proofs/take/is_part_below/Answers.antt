@@ -4,7 +4,7 @@ use Rattle.std.specs.Option.{MatchOption}
 use Rattle.rows.specs.Kinds.{is_definition_row}
 use Rattle.rows.specs.Parts.{Sits}
 use Rattle.rows.proofs.Taking.{sits_is}
-use Rattle.rows.proofs.take.sits.Goals as goal
+use Rattle.rows.proofs.take.is_part_below.Goals as goal
 
 pub returns : goal.returns
 returns c =

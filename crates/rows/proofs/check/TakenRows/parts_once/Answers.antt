@@ -4,15 +4,15 @@ use Rattle.rows.specs.Sheet.{empty}
 use Rattle.rows.specs.Checking.{OnceAPart, is_definition}
 use Rattle.rows.proofs.Numbers.{at_get_or, definition_row, not_definition}
 use Rattle.rows.proofs.Tallies.{zeros, once_used, used_once}
-use Rattle.rows.proofs.check.parts_once.Goals as goal
-use Rattle.rows.proofs.check.parts_once.Goals.{else-not-once-via-then-not-once+else-not-is_definition, else-not-once-via-else-not-once}
+use Rattle.rows.proofs.check.TakenRows.parts_once.Goals as goal
+use Rattle.rows.proofs.check.TakenRows.parts_once.Goals.{else-not-once-via-then-not-once+else-not-is_definition, else-not-once-via-else-not-once}
 
-pub tally-requires-clause-unused : goal.tally-requires-clause-unused
-tally-requires-clause-unused c = λ a. zeros 128 a
+pub tally-requires : goal.tally-requires
+tally-requires c = λ a. zeros 128 a
 
 pub returns-then-not-is_definition : goal.returns-then-not-is_definition
 returns-then-not-is_definition c =
-    let s = c.args.rows.now in
+    let s = c.args.self.rows.now in
     let i = at_get_or s c.loop-a.a empty c.loop-a-test.true in (
       refl,
       record {
@@ -26,7 +26,7 @@ returns-then-not-is_definition c =
 
 pub loop-a-preserved : goal.loop-a-preserved
 loop-a-preserved c =
-    let s = c.args.rows.now in
+    let s = c.args.self.rows.now in
     let i = at_get_or s c.loop-a.a empty c.loop-a-test.true in
     below_more (OnceAPart s) c.loop-a.a c.loop-a.invariant
     (elim c.else-not-once.branch [

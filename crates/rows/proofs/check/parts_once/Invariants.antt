@@ -1,6 +1,0 @@
-use Rattle.std.proofs.Common.{ℕ, ◌<◌}
-use Rattle.rows.specs.Checking.{OnceAPart}
-use Rattle.rows.proofs.check.parts_once.Given as goal
-
-abbrev pub invariant-loop-a : goal.invariant-loop-a
-invariant-loop-a l = (q : ℕ) → q < l.a → OnceAPart l.rows q
