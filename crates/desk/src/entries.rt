@@ -29,6 +29,7 @@ pub struct Desk<'a> {
 }
 
 /// Reads and checks the body of a sheet.
+// No call of the sheets' crate: who checks a sheet holds a sound one before, and goes on in its own way if it is refused.
 fn check_sheet(body: &[u8]) -> Result<SoundSheet, Fault>
     ensures { MatchResult result (λ s. IsSheet body.now (rows_of s)) (λ f. NotASheet body.now (number_of f.refusal) f.place) }
 {
@@ -51,6 +52,7 @@ fn tell_proposal(answer: Result<usize, Declined<u32>>) -> Line
 }
 
 /// What a line tells of a filing.
+// No `From`, as for a proposal.
 fn tell_filing(answer: Result<usize, Fault>) -> Line
     ensures { (show : List ℕ) → fields result show ≡ of_filing answer }
 {

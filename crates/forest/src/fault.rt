@@ -63,6 +63,7 @@ impl Refusal {
 }
 
 /// A refusal, and the place that it tells.
+// Written out where it is met, at place 0 too: a conversion that sets the place would hide it.
 #[derive(Clone, Copy, PartialEq, Eq, Debug)]
 pub struct Fault {
     pub refusal: Refusal,

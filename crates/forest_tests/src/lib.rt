@@ -9,7 +9,7 @@ mod tests {
     use forest::{Event, Fault, Record, Refusal};
     use std::test::Fail;
 
-    // Whether a test goes on. The other crate of tests has this too: a library for one line would be no plainer.
+    // Whether a test goes on. The other crate of tests has such a function too: a library for one would be no plainer.
     fn check(holds: bool) -> Result<(), Fail> {
         holds
             .then_some(())

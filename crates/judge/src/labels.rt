@@ -10,6 +10,7 @@ use std::marker::Model;
 const MOST_LABELS: usize = 257;
 
 /// A list of labels. It stands in an array, since nothing is allocated.
+// A type of its own: a list of any items over an array would owe at each call that its items fit in memory.
 #[derive(Drop)]
 pub struct Labels {
     all: [u16; MOST_LABELS],

@@ -33,6 +33,7 @@ fn sheet(body: &[u8]) -> SoundSheet {
 }
 
 /// An element of a working list that says nothing.
+// Written out: the library makes no blank elements, since it reads none.
 fn blank<C>(cost: C) -> Sort<C> {
     Sort {
         standings: Standings { old: 0, new: 0 },

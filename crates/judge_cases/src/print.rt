@@ -116,6 +116,7 @@ fn print_shown(rt: &HostRuntime, length: u32, shown: bool, show: &[u8]) -> io::R
         println!(rt; ", shown, {last} bytes written")
     } else {
         print!(rt; ", {last} bytes written: ")?;
+        // By `as`: there is no `From` between the two.
         for b in show.iter().take(length as usize) {
             print!(rt; "{b:02X}")?;
         }

@@ -27,6 +27,7 @@ impl Register {
         ensures told { Proposed (M.Measure.model measure.now) (held self.old) (rows_of sheet.now) (lent list.old show.old) result (lent list.new show.new) (held self.new) }
         ensures left { LeftIfRefused result self.old self.new }
     {
+        // Here, and in judging once more: 20 comes before 30.
         if list.is_empty() || list.len() > MOST {
             return Err(Declined::Refused(refused(Refusal::ListSize)));
         }

@@ -21,7 +21,7 @@ mod tests {
 
     const TEXTS: [u8; 12] = [1, 0, 0, 0, 6, 0, 0, 0, 7, 1, 0, 0];
 
-    // Whether a test goes on. The other crate of tests has this too: a library for one line would be no plainer.
+    // Whether a test goes on. The other crate of tests has such a function too: a library for one would be no plainer.
     fn check(holds: bool) -> Result<(), Fail> {
         if holds {
             Ok(())
@@ -30,6 +30,7 @@ mod tests {
         }
     }
 
+    // By number, as lines tell refusals: so the numbers are tested too.
     fn tells(fault: Fault, number: u8, place: usize) -> Result<(), Fail> {
         check((fault.refusal.number(), fault.place) == (number, place))
     }
@@ -54,6 +55,7 @@ mod tests {
         sorts: usize,
     ) -> Result<Result<usize, Declined<u32>>, Fail> {
         let sheet = sound(body)?;
+        // Written out: the library makes no blank elements, since it reads none.
         let mut list = [Sort {
             standings: Standings { old: 0, new: 0 },
             cost: 0u32,

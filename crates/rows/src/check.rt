@@ -61,6 +61,7 @@ fn tally_row(row: Row, used: &mut [u16; MOST_ROWS])
 }
 
 /// How many of the rows are definitions.
+// One line for each of the two counts: one function with the test as a parameter would be as long.
 fn count_definitions(rows: &[Row]) -> usize
     ensures { result ≡ definitions rows.now }
 {

@@ -14,6 +14,7 @@ use survey::{First, Standings};
 const MOST_INPUT: u64 = 65536;
 
 /// An element of the working list before it is used.
+// Written out: the library makes no blank elements, since it reads none.
 const UNUSED: Sort<u32> = Sort {
     standings: Standings { old: 0, new: 0 },
     cost: 0,

@@ -10,6 +10,7 @@ use super::sets::bit;
 use rows::{CheckedRows, Row};
 
 /// The rows of a sound sheet, and for each the number of its place: what the tables are worked out from.
+// Side by side, as checked rows have them, of which the rows alone go on as one slice.
 #[derive(Clone, Copy)]
 pub struct NumberedRows<'a> {
     pub(super) rows: &'a [Row],

@@ -20,6 +20,7 @@ impl Iterator for Members {
         if self.0 == 0 {
             return None;
         }
+        // By `as`: there is no `From` between the two.
         let place = self.0.trailing_zeros() as usize;
         self.0 &= self.0 - 1;
         Some(place)

@@ -1,7 +1,7 @@
 //! Entries taken off inputs: every pair of bytes as a mark, and an entry cut short at every place.
 use crate::entry::{Entry, Taken, take};
 
-/// The number of the refusal.
+/// The number of the refusal, as lines tell it: so the numbers are tested too.
 fn refusal(input: &[u8]) -> Option<u8> {
     take(input).err().map(|fault| fault.refusal.number())
 }

@@ -30,6 +30,7 @@ impl<const N: usize> Hints<N> {
 
     // The slot that is tried for a key at a step.
     fn slot(&self, key: u64, step: usize) -> usize {
+        // By `as`: there is no `From` between the two.
         ((key >> 32) as usize).wrapping_add(step) % N
     }
 
@@ -68,7 +69,7 @@ impl<const N: usize> Hints<N> {
         self.write(self.slot(key, 0), place);
     }
 
-    // What stands at two places under keys changes places.
+    // What stands at two places under keys changes places. A struct of a key and a place would be made for this alone.
     pub fn exchange(&mut self, key: u64, place: usize, other_key: u64, other: usize) {
         // Both are looked for before either is written, as keys can have slots in common.
         let slot = self.noted(key, place);

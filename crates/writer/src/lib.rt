@@ -72,6 +72,7 @@ pub fn show<C: Copy>(list: &[Sort<C>], index: usize, out: &mut [u8]) -> bool
     requires readable { Readable list.now index }
     ensures { Written list.now index out.old out.new result }
 {
+    // By `as`: there is no `From` between the two.
     let size = list[index].length as usize;
     if size > out.len().min(USED) {
         return false;
