@@ -1,5 +1,5 @@
 -- Handling an entry is a step of a season, or none.
-use Rattle.std.proofs.Common.{◌≡◌, ℕ, List, [], ◌∷◌, sym, refl, subst}
+use Rattle.std.proofs.Common.{◌≡◌, ℕ, ◌<◌, List, [], ◌∷◌, length, sym, refl, subst}
 use Rattle.measure.specs.declared.length.Length.{Length}
 use Rattle.law.specs.Calls.{Held, Lent}
 use Rattle.law.specs.Law as law
@@ -9,7 +9,8 @@ use Rattle.stream.specs.Line.{Field}
 use Rattle.stream.specs.declared.buffer.LineBuffer.{LineBuffer}
 use Rattle.stream.specs.Stream as stream
 use Rattle.stream.specs.Stream.{Kind, Front, nothing, whole, in_mark, in_length, in_body, no_mark}
-use Rattle.desk.specs.Handling.{Outcome, no_rows, not_sound, proposed, filed, Handled, at_end, over}
+use Rattle.stream.proofs.Fronts.{shorter}
+use Rattle.desk.specs.Handling.{Outcome, no_rows, not_sound, proposed, filed, Ending, Handled, at_end, refused, told, over, stops, goes_on}
 use Rattle.desk.specs.Seasons.{by_length, StaysASeason}
 
 -- At the end of an input nothing is left.
@@ -45,3 +46,27 @@ stays_after {L} {s} (no_rows n) = stays L s
 stays_after {L} {s} (not_sound e b d) = stays L s
 stays_after {L} {s} {given} (proposed {sheet = x} {answer = a} {left = l} {s' = s'} e b p q) = one_more L s s' (law.proposed (record {}) x given a l) q
 stays_after {L} {s} (filed {body = w} {answer = a} {s' = s'} q) = one_more L s s' (law.filed w a) q
+
+-- What comes next is shorter than the input.
+abbrev pub Shorter : Ending → List ℕ → Type 0
+Shorter over input = Unit {0}
+Shorter stops input = Unit {0}
+Shorter (goes_on rest) input = length rest < length input
+
+pub shortens : {L : Type 0} {s s' : Held} {given left : Lent L} {before after : LineBuffer} {n : ℕ} {input : List ℕ} {e : Ending}
+    → Handled s given before n input e s' left after → Shorter e input
+shortens at_end = tt
+shortens (refused f t) = tt
+shortens (told f o t) = shorter f
+
+-- Where the reading is over nothing of the input is left.
+abbrev pub Emptied : Ending → List ℕ → Type 0
+Emptied over input = input ≡ []
+Emptied stops input = Unit {0}
+Emptied (goes_on rest) input = Unit {0}
+
+pub ends_empty : {L : Type 0} {s s' : Held} {given left : Lent L} {before after : LineBuffer} {n : ℕ} {input : List ℕ} {e : Ending}
+    → Handled s given before n input e s' left after → Emptied e input
+ends_empty at_end = refl
+ends_empty (refused f t) = tt
+ends_empty (told f o t) = tt

@@ -28,15 +28,14 @@ pub struct Desk<'a> {
     pub line: &'a mut LineBuffer,
 }
 
-/// Reads and checks the body of a sheet.
+/// Reads and checks the body of a sheet, which `held` is from then on.
 // No call of the sheets' crate: who checks a sheet holds a sound one before, and goes on in its own way if it is refused.
-fn check_sheet(body: &[u8]) -> Result<SoundSheet, Fault>
-    ensures { MatchResult result (λ s. IsSheet body.now (rows_of s)) (λ f. NotASheet body.now (number_of f.refusal) f.place) }
+// Into `held`, since a sheet that came back in a `Result` would be copied at each `?`.
+fn check_sheet(body: &[u8], held: &mut SoundSheet) -> Result<(), Fault>
+    ensures { MatchResult result (λ _. IsSheet body.now (rows_of held.new)) (λ f. NotASheet body.now (number_of f.refusal) f.place) }
 {
     let read = ReadSheet::read(body)?;
-    let mut sheet = SoundSheet::empty();
-    sheet.check(&read)?;
-    Ok(sheet)
+    held.check(&read)
 }
 
 /// What a line tells of a proposal.
@@ -68,7 +67,8 @@ impl Desk<'_> {
         ensures outcome { Outcome (holds self.old) (lends self.old) a_sheet body.now (of_proposal result (lends self.new).show) (holds self.new) (lends self.new) }
         ensures same { SameReferences self.old self.new }
     {
-        let sheet = check_sheet(body)?;
+        let mut sheet = SoundSheet::empty();
+        check_sheet(body, &mut sheet)?;
         self.register.propose(&sheet, &Length, self.list, self.show)
     }
 

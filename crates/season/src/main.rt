@@ -37,12 +37,13 @@ fn main(rt: HostRuntime) -> anyhow::Result<()> {
         line: &mut LineBuffer::new(),
     };
     let mut rest = input.as_slice();
-    // An entry takes some of the input, so there are no more entries than bytes.
-    for number in 1..=input.len() {
-        match desk.handle(number, rest) {
+    // An entry takes some of the input, so there are turns enough for all of them.
+    for earlier in 0..input.len() {
+        match desk.handle(earlier + 1, rest) {
             Progress::Done => break,
             Progress::Stopped => {
                 out.write_all(desk.line.text())?;
+                rest = &[];
                 break;
             }
             Progress::More(next) => {
@@ -51,6 +52,8 @@ fn main(rt: HostRuntime) -> anyhow::Result<()> {
             }
         }
     }
+    let is_over = rest.is_empty();
+    prove!(is_over);
     out.flush()?;
     Ok(())
 }

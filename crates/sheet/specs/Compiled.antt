@@ -1,11 +1,14 @@
 -- The tables of a sheet, and what each of them holds.
 -- Nothing on this page is needed to read what a sheet means.
-use Rattle.std.specs.Prelude.{◌≡◌, ℕ, ◌^◌, ◌<◌, ◌↔◌, List, length, take, slice_index}
+use Rattle.std.specs.Prelude.{◌≡◌, ℕ, ◌^◌, ◌<◌, ◌↔◌, Option, Some, None, List, length, take, slice_index}
 use Rattle.std.proofs.Math.Option.{some}
 use Rattle.rows.specs.Sheet.{Sheet, at, definitions, places, Numbered, Names, Defines}
+use Rattle.rows.specs.declared.row.Row.{Row}
 use Rattle.rows.specs.declared.row.Row.TheVariants.{Text as one_text, Named as named, Any as any}
 use Rattle.sheet.specs.Standing.{Bit, SetOf}
 use Rattle.sheet.specs.Shapes.{LeadsBelow, EndsBelow, Holds}
+pub use Rattle.sheet.specs.declared.tables.LeafKind.{LeafKind}
+pub use Rattle.sheet.specs.declared.tables.LeafKind.TheVariants.{Text, Named, Any}
 pub use Rattle.sheet.specs.declared.tables.Tables.{Tables}
 
 -- A table of sets of places, an element for each place: the place p has each place q that R says.
@@ -22,6 +25,13 @@ NamedAt s p = (l d : ℕ) × (at s p ≡ some (named l d))
 
 abbrev pub AnyAt : Sheet → ℕ → Type 0
 AnyAt s p = (d : ℕ) × (at s p ≡ some (any d))
+
+-- The row is a leaf of this kind, or no leaf.
+abbrev pub IsKind : Row → Option LeafKind → Type 0
+IsKind r (Some Text) = r ≡ one_text
+IsKind r (Some Named) = (l d : ℕ) × (r ≡ named l d)
+IsKind r (Some Any) = (d : ℕ) × (r ≡ any d)
+IsKind r None = (r ≡ one_text → ⊥) × ((l d : ℕ) → r ≡ named l d → ⊥) × ((d : ℕ) → r ≡ any d → ⊥)
 
 -- The leaf p, among the first k rows, holds content of the definition at row w.
 abbrev pub HoldsBelow : Sheet → ℕ → ℕ → ℕ → Type 0

@@ -14,6 +14,8 @@ use rows::{CheckedRows, MOST_ROWS, ReadSheet, Row, count_places};
 impl From<CheckedRows> for SoundSheet {
     ghost from_gives = { λ checked sheet. rows_of sheet ≡ rows_in checked };
 
+    // Always inlined: a sheet takes two thousand bytes, and would be copied to where the call stands.
+    #[inline(always)]
     fn from(checked: CheckedRows) -> SoundSheet {
         let tables = NumberedRows::of(&checked).tables();
         SoundSheet { checked, tables }
@@ -34,14 +36,15 @@ impl SoundSheet {
         })
     }
 
-    // The caller holds a sound sheet from the first on: a passed check replaces it, and a refusal does not.
+    // The caller holds a sound sheet from the first on: a passed check replaces it, and a refusal does not. Field by field,
+    // since a whole sheet would be made beside it and copied.
     /// Holds the rows that were read from now on if they are a sound sheet; a refusal leaves what was held.
     pub fn check(&mut self, read: &ReadSheet) -> Result<(), Fault>
         ensures answer { Checking (raws_of read.now) self.old self.new result }
         ensures one { AtMostOne (raws_of read.now) }
     {
-        let checked = read.check()?;
-        *self = SoundSheet::from(checked);
+        self.checked = read.check()?;
+        self.tables = NumberedRows::of(&self.checked).tables();
         Ok(())
     }
 

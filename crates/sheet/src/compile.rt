@@ -1,7 +1,7 @@
 //! Working out the tables of a sheet.
 
 ghost use Rattle.std.specs.Prelude.{◌≡◌, ℕ, length, slice_index};
-ghost use Rattle.sheet.specs.Compiled.{AnyAt, Compiled, Homes, Labels, NamedAt, Tabled, TextAt};
+ghost use Rattle.sheet.specs.Compiled.{AnyAt, Compiled, Homes, IsKind, Labels, NamedAt, Tabled, TextAt};
 ghost use Rattle.sheet.specs.Shapes.{EndsAt, EndsBelow, Grown, Holds, LeadsAt, LeadsBelow};
 ghost use Rattle.rows.specs.Sheet.{at};
 ghost use Rattle.rows.specs.declared.row.Row.TheVariants.{Def as def};
@@ -10,8 +10,20 @@ ghost use Rattle.std.proofs.Math.Option.{some};
 
 use super::numbered::NumberedRows;
 use super::sets::{bit, link};
-use super::tables::Tables;
+use super::tables::{LeafKind, Tables};
 use rows::Row;
+
+/// The kind of leaf that a row is, if it is a leaf.
+fn kind_of(row: Row) -> Option<LeafKind>
+    ensures { IsKind row result }
+{
+    match row {
+        Row::Text => Some(LeafKind::Text),
+        Row::Named(_, _) => Some(LeafKind::Named),
+        Row::Any(_) => Some(LeafKind::Any),
+        _ => None,
+    }
+}
 
 // The loops over the rows go by index, since a row's number is what its place is looked up by.
 
@@ -57,11 +69,11 @@ impl<'a> NumberedRows<'a> {
         let mut named = 0;
         let mut anys = 0;
         for (p, row) in self.rows.iter().enumerate() {
-            match *row {
-                Row::Text => texts |= self.place(p),
-                Row::Named(_, _) => named |= self.place(p),
-                Row::Any(_) => anys |= self.place(p),
-                _ => {}
+            match kind_of(*row) {
+                Some(LeafKind::Text) => texts |= self.place(p),
+                Some(LeafKind::Named) => named |= self.place(p),
+                Some(LeafKind::Any) => anys |= self.place(p),
+                None => {}
             }
         }
         (texts, named, anys)

@@ -1,5 +1,13 @@
 //! What a sound sheet holds beside its rows, so that a standing is worked out by a few steps.
 
+/// The three kinds of leaves.
+#[derive(Clone, Copy)]
+pub enum LeafKind {
+    Text,
+    Named,
+    Any,
+}
+
 /// The tables of a sheet. Sets are sets of places, lists have an element for each place.
 ///
 /// Three lists beside one another, since each is walked by itself, by `gather` or by `pick`.

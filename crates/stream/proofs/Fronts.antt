@@ -134,4 +134,8 @@ some_front (a ∷ (b ∷ s)) = elim (known a b) [
 pub just_one_front : JustOneFront
 just_one_front s = let x = some_front s in (x.0, x.1, λ y p. one_says s y x.0 (says p) (says x.1))
 
+-- What follows an entry is shorter than the input that it was taken off.
+pub shorter : {s body rest : List ℕ} {k : Kind} → Front s (entry k body rest) → length rest < length s
+shorter (whole k {a} {b} {h} {l} {body} {rest} m n) = simp length-append (omega arith)
+
 pub ruleset fronts = (nothing_at, whole_at, in_mark_at, in_length_at, in_body_at, no_mark_at, just_one_front)

@@ -91,6 +91,8 @@ impl Line {
 
 impl LineBuffer {
     /// Makes the line for the entry of this number, in place of what was there.
+    // A call of its own: where it was laid out in the program's loop, long losses took a tenth more time.
+    #[inline(never)]
     #[tactic(auto, using(crate::proofs::Numerals::decimal_short))]
     pub fn make(&mut self, number: usize, line: &Line, show: &[u8])
         ensures says { Says self.new number (fields line.now show.now) }

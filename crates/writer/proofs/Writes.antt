@@ -121,31 +121,31 @@ begun_opening xs head front k e le is = record { is = ap (λ (us : List ℕ). us
 abbrev pub closed_part : List Part → ℕ → ℕ → List ℕ
 closed_part t k l = ((1 ∷ l / 256 ∷ l % 256 ∷ []) ++ bytes_at t (part_at t k).content) ++ (2 ∷ [])
 
--- ys begins with an opening and the content, and once closed, there is room for the rest
-pub record Closing (t : List Part) (k l r : ℕ) (xs ys : List ℕ) : Type 0 where
+-- ys begins with an opening and the content, up to e, and once closed, there is room for the rest
+pub record Closing (t : List Part) (k l e : ℕ) (xs ys : List ℕ) : Type 0 where
   pub opened : length ys ≡ length xs
-  pub begun : Begun (closed_part t k l) xs (set ys (3 + r) 2)
-  pub same : length (set ys (3 + r) 2) ≡ length xs
-  pub end : 3 + r + 1 ≡ length (closed_part t k l)
-  pub fits : 3 + r + 1 + length (bytes_at t (part_at t k).rest) ≤ length xs
-  pub left : length (take (length (set ys (3 + r) 2) - (3 + r + 1)) (drop (3 + r + 1) (set ys (3 + r) 2))) ≡ length xs - (3 + r + 1)
+  pub begun : Begun (closed_part t k l) xs (set ys e 2)
+  pub same : length (set ys e 2) ≡ length xs
+  pub end : e + 1 ≡ length (closed_part t k l)
+  pub fits : e + 1 + length (bytes_at t (part_at t k).rest) ≤ length xs
+  pub left : length (take (length (set ys e 2) - (e + 1)) (drop (e + 1) (set ys e 2))) ≡ length xs - (e + 1)
 
-pub closing : {t : List Part} {k l : ℕ} (n : NodeAt t k l) (xs head zs : List ℕ) (r : ℕ) → length (bytes_at t k) ≤ length xs
-    → head ≡ 1 ∷ l / 256 ∷ l % 256 ∷ [] → r ≡ length (bytes_at t (part_at t k).content)
-    → zs ≡ bytes_at t (part_at t k).content ++ drop r (take (length (head ++ drop 3 xs) - 3) (drop 3 (head ++ drop 3 xs)))
-    → Closing t k l r xs (put_mid 3 (length (head ++ drop 3 xs) - 3) (head ++ drop 3 xs) zs)
-closing {t} {k} {l} n xs head zs r room is size wrote =
+pub closing : {t : List Part} {k l : ℕ} (n : NodeAt t k l) (xs head zs : List ℕ) (e : ℕ) → length (bytes_at t k) ≤ length xs
+    → head ≡ 1 ∷ l / 256 ∷ l % 256 ∷ [] → e ≡ 3 + length (bytes_at t (part_at t k).content)
+    → zs ≡ bytes_at t (part_at t k).content ++ drop (length (bytes_at t (part_at t k).content)) (take (length (head ++ drop 3 xs) - 3) (drop 3 (head ++ drop 3 xs)))
+    → Closing t k l e xs (put_mid 3 (length (head ++ drop 3 xs) - 3) (head ++ drop 3 xs) zs)
+closing {t} {k} {l} n xs head zs e room is size wrote =
     let cs = bytes_at t (part_at t k).content in
     let front = (1 ∷ l / 256 ∷ l % 256 ∷ []) ++ cs in
     let content : Begun front xs (put_mid 3 (length (head ++ drop 3 xs) - 3) (head ++ drop 3 xs) zs) =
-    begun_part cs zs 3 r (begun_opening xs head (1 ∷ l / 256 ∷ l % 256 ∷ []) 3 refl (omega arith) is) refl size (omega arith) wrote in
-    let begun = begun_byte (3 + r) 2 content (omega arith) (omega arith) in
-    let end : 3 + r + 1 ≡ length (front ++ (2 ∷ [])) = omega (arith, length-append front (2 ∷ [])) in
+    begun_part cs zs 3 (length cs) (begun_opening xs head (1 ∷ l / 256 ∷ l % 256 ∷ []) 3 refl (omega arith) is) refl refl (omega arith) wrote in
+    let begun = begun_byte e 2 content (omega arith) (omega arith) in
+    let end : e + 1 ≡ length (front ++ (2 ∷ [])) = omega (arith, length-append front (2 ∷ [])) in
     record {
       opened = length_begun content;
       begun = begun;
       same = length_begun begun;
       end = end;
       fits = omega arith;
-      left = ap length (rest_of (3 + r + 1) begun end) ∙ length-drop (3 + r + 1) xs;
+      left = ap length (rest_of (e + 1) begun end) ∙ length-drop (e + 1) xs;
     }

@@ -30,26 +30,29 @@ fn opening(label: u16) -> [u8; 3]
     [OPENING, high, low]
 }
 
-// Writes the forest at `index` to the front of `out`, and says how long it is.
-fn write(table: &[Part], index: usize, out: &mut [u8]) -> usize
+// Writes the forest at `index` to the front of `out`, and says how many bytes it and the `before` bytes before it take.
+// Told so, the rest is written by the function's last call, which is a loop when it runs; a sum after that call took a
+// half more time.
+fn write(table: &[Part], index: usize, out: &mut [u8], before: usize) -> usize
     requires within { index < length table.now }
     requires lower { Lower table.now index }
     requires room { length (bytes_of (spelled table.now index)) ≤ length out.old }
-    ensures size { result ≡ length (bytes_of (spelled table.now index)) }
-    ensures front { out.new ≡ bytes_of (spelled table.now index) ++ drop result out.old }
+    requires few { before + length (bytes_of (spelled table.now index)) ≤ 65535 }
+    ensures size { result ≡ before + length (bytes_of (spelled table.now index)) }
+    ensures front { out.new ≡ bytes_of (spelled table.now index) ++ drop (length (bytes_of (spelled table.now index))) out.old }
 {
     let part = table[index];
     match part.first {
-        First::Nothing => 0,
+        First::Nothing => before,
         First::Text => {
             out[..2].copy_from_slice(&[TEXT, 0]);
-            2 + write(table, part.rest, &mut out[2..])
+            write(table, part.rest, &mut out[2..], before + 2)
         }
         First::Node(label) => {
             out[..3].copy_from_slice(&opening(label));
-            let end = 3 + write(table, part.content, &mut out[3..]);
+            let end = write(table, part.content, &mut out[3..], 3);
             out[end] = CLOSING;
-            end + 1 + write(table, part.rest, &mut out[end + 1..])
+            write(table, part.rest, &mut out[end + 1..], before + end + 1)
         }
     }
 }
@@ -83,7 +86,7 @@ pub fn show<C: Copy>(list: &[Sort<C>], index: usize, out: &mut [u8]) -> bool
         rest: 0,
     }; ROOM];
     fill(&list[..=index], &mut table);
-    write(&table, index, out);
+    write(&table, index, out, 0);
     true
 }
 

@@ -10,7 +10,7 @@ write-requires t c =
     let xs = c.args.out.now in
     let n : TextAt T k = text_at T k c.requires.lower k (omega arith) c.in-Text.is in
     let h = begun_opening xs c.copy_from_slice.new.self (3 ∷ 0 ∷ []) 2 refl (omega arith) c.copy_from_slice.ensures.after in
-    (search rules, (omega arith, (λ j h. c.requires.lower j (omega arith), omega (arith, ap length (rest_of 2 h refl), length-drop 2 xs))))
+    (search rules, (omega arith, (λ j h. c.requires.lower j (omega arith), (omega (arith, ap length (rest_of 2 h refl), length-drop 2 xs), omega (arith, n.size)))))
 
 pub write-end-requires : goal.write-end-requires
 write-end-requires t c =
@@ -20,7 +20,7 @@ write-end-requires t c =
     let l = c.in-Node.label in
     let n : NodeAt T k l = node_at T k c.requires.lower k (omega arith) l c.in-Node.is in
     let h = begun_opening xs c.copy_from_slice-in-Node.new.self (1 ∷ l / 256 ∷ l % 256 ∷ []) 3 refl (omega arith) (c.copy_from_slice-in-Node.ensures.after ∙ c.opening.ensures) in
-    (search rules, (omega arith, (λ j h. c.requires.lower j (omega arith), omega (arith, ap length (rest_of 3 h refl), length-drop 3 xs))))
+    (search rules, (omega arith, (λ j h. c.requires.lower j (omega arith), (omega (arith, ap length (rest_of 3 h refl), length-drop 3 xs), omega (arith, n.size)))))
 
 pub bounds-out-end : goal.bounds-out-end
 bounds-out-end t c =
@@ -62,7 +62,7 @@ write-requires-in-Node t c =
     let l = c.in-Node.label in
     let n : NodeAt T k l = node_at T k c.requires.lower k (omega arith) l c.in-Node.is in
     let z = closing n xs c.copy_from_slice-in-Node.new.self c.write-end.new.out c.write-end.result c.requires.room (c.copy_from_slice-in-Node.ensures.after ∙ c.opening.ensures) c.write-end.ensures.size c.write-end.ensures.front in
-    (search rules, (omega arith, (λ j h. c.requires.lower j (omega arith), omega (arith, z.left, z.fits))))
+    (search rules, (omega arith, (λ j h. c.requires.lower j (omega arith), (omega (arith, z.left, z.fits), omega (arith, n.size, c.write-end.ensures.size)))))
 
 pub returns-in-Text : goal.returns-in-Text
 returns-in-Text t c =
@@ -72,11 +72,10 @@ returns-in-Text t c =
     let n : TextAt T k = text_at T k c.requires.lower k (omega arith) c.in-Text.is in
     let h = begun_opening xs c.copy_from_slice.new.self (3 ∷ 0 ∷ []) 2 refl (omega arith) c.copy_from_slice.ensures.after in
     let bs = bytes_at T (part_at T k).rest in
-    let all = begun_part bs c.write.new.out 2 c.write.result h refl c.write.ensures.size (omega arith) c.write.ensures.front in
-    let size : 2 + c.write.result ≡ length (bytes_at T k) = omega (arith, n.size, c.write.ensures.size) in
+    let all = begun_part bs c.write.new.out 2 (length bs) h refl refl (omega (arith, n.size)) c.write.ensures.front in
     record {
-      size = size;
-      front = all.is ∙ ap (λ (us : List ℕ). us ++ drop (length us) xs) (sym n.bytes) ∙ ap (λ (m : ℕ). bytes_at T k ++ drop m xs) (sym size);
+      size = omega (arith, n.size, c.write.ensures.size);
+      front = all.is ∙ ap (λ (us : List ℕ). us ++ drop (length us) xs) (sym n.bytes);
     }
 
 pub returns-in-Node : goal.returns-in-Node
@@ -87,12 +86,11 @@ returns-in-Node t c =
     let l = c.in-Node.label in
     let n : NodeAt T k l = node_at T k c.requires.lower k (omega arith) l c.in-Node.is in
     let z = closing n xs c.copy_from_slice-in-Node.new.self c.write-end.new.out c.write-end.result c.requires.room (c.copy_from_slice-in-Node.ensures.after ∙ c.opening.ensures) c.write-end.ensures.size c.write-end.ensures.front in
-    let end = 3 + c.write-end.result + 1 in
+    let end = c.write-end.result + 1 in
     let bs = bytes_at T (part_at T k).rest in
-    let all = begun_part bs c.write-in-Node.new.out end c.write-in-Node.result z.begun z.end c.write-in-Node.ensures.size (omega (arith, z.fits, c.write-in-Node.ensures.size)) c.write-in-Node.ensures.front in
-    let size : end + c.write-in-Node.result ≡ length (bytes_at T k) = omega (arith, n.size, c.write-end.ensures.size, c.write-in-Node.ensures.size) in
+    let all = begun_part bs c.write-in-Node.new.out end (length bs) z.begun z.end refl z.fits c.write-in-Node.ensures.front in
     let bytes : closed_part T k l ++ bs ≡ bytes_at T k = append_assoc ((1 ∷ l / 256 ∷ l % 256 ∷ []) ++ bytes_at T (part_at T k).content) (2 ∷ []) bs ∙ sym n.bytes in
     record {
-      size = size;
-      front = all.is ∙ ap (λ (us : List ℕ). us ++ drop (length us) xs) bytes ∙ ap (λ (m : ℕ). bytes_at T k ++ drop m xs) (sym size);
+      size = omega (arith, n.size, c.write-end.ensures.size, c.write-in-Node.ensures.size);
+      front = all.is ∙ ap (λ (us : List ℕ). us ++ drop (length us) xs) bytes;
     }

@@ -19,17 +19,23 @@ write-requires-clause-room g c =
     let h = fits z.made_of c.args.out.now _ c.min.result (z.told c.index-list-index.result) c.min.ensures c.if-size-min.false in
     omega (arith, same, h.1)
 
+pub write-requires-clause-few : goal.write-requires-clause-few
+write-requires-clause-few g c =
+    let z = ready c.args.list.now c.fill.new.table c.args.index c.index-list-index.result c.requires.bounds.0 c.requires.readable (c.fill.ensures c.index-list-index.result) in
+    let same = ap (λ (f : Forest). length (bytes_of f)) z.is in
+    let h = fits z.made_of c.args.out.now _ c.min.result (z.told c.index-list-index.result) c.min.ensures c.if-size-min.false in
+    omega (arith, same, h.0)
+
 pub returns : goal.returns
 returns g c =
     let z = ready c.args.list.now c.fill.new.table c.args.index c.index-list-index.result c.requires.bounds.0 c.requires.readable (c.fill.ensures c.index-list-index.result) in
     let h = fits z.made_of c.args.out.now _ c.min.result (z.told c.index-list-index.result) c.min.ensures c.if-size-min.false in
-    let size = c.write.ensures.size ∙ ap (λ (f : Forest). length (bytes_of f)) z.is in
     record {
       forest = z.made_of;
       spelled = z.spelled;
       put = (
         h.0,
         h.1,
-        c.write.ensures.front ∙ ap (λ (f : Forest). bytes_of f ++ drop c.write.result c.args.out.now) z.is ∙ ap (λ (n : ℕ). bytes_of z.made_of ++ drop n c.args.out.now) size,
+        c.write.ensures.front ∙ ap (λ (f : Forest). bytes_of f ++ drop (length (bytes_of f)) c.args.out.now) z.is,
       );
     }

@@ -15,11 +15,11 @@ refused_sheet s given body n p (inr w) = not_sound w.are_laid w.is_body w.due
 
 pub returns-clause-outcome : goal.returns-clause-outcome
 returns-clause-outcome c =
-    let s = c.in_ok-sheet.ensures in
+    let s = c.in_ok-check_sheet.ensures in
     proposed s.are_laid s.is_body s.passes c.propose.ensures.told
 
-pub returns-in_err-sheet-clause-outcome : goal.returns-in_err-sheet-clause-outcome
-returns-in_err-sheet-clause-outcome c =
+pub returns-in_err-check_sheet-clause-outcome : goal.returns-in_err-check_sheet-clause-outcome
+returns-in_err-check_sheet-clause-outcome c =
     let r = c.from_residual in
     let p = err_from_is_err_and r.result r.ensures.1 in
-    rw (p.1, p.2) (refused_sheet _ _ _ _ _ c.in_err-sheet.ensures)
+    rw (p.1, p.2) (refused_sheet _ _ _ _ _ c.in_err-check_sheet.ensures)
